@@ -4,7 +4,7 @@ use Rattle.std.specs.Prelude.{Some, Contains, slice_get, slice_set}
 use Rattle.std.proofs.lemmas.Bool.{true≢false, cases_lt}
 use Rattle.std.proofs.lemmas.Option.{same_Some}
 use Rattle.std.proofs.lemmas.List.{append-nil, length-set, get_or-set_same, get_or-set_other, get_or_past, take_more}
-use Rattle.std.proofs.lemmas.List.Elements.{Contains-push, Contains-append_left, Contains-append_right, Contains-append_cases}
+use Rattle.std.proofs.lemmas.List.Elements.{Contains-append_left, Contains-append_right, Contains-append_cases}
 use Rattle.heap_spec.specs.Layout.{PointsInto}
 use Rattle.heap_spec.specs.Heap.{Heap, Object, HasObject}
 use Rattle.heap_spec.specs.Closure.{Closure, given, root, word}
@@ -63,10 +63,6 @@ module _ (c : PlainContents) (sound : IsLaidOut c) (base : ℕ) (old new : List 
 pub flagged_none : (origin : ℕ) (flags : List Bool) → AreFlaggedBases origin [] flags []
 flagged_none origin flags = record { all = λ e has is. absurd (nothing_in e has); only = λ b has. absurd (nothing_in b has) }
 
-pub flagged_one : (origin : ℕ) (flags : List Bool) (e : Extent) → IsFlagged origin flags e.base → AreFlaggedBases origin (e ∷ []) flags (e.base ∷ [])
-flagged_one origin flags e is = record {
-  all = λ f has set. subst (λ (x : Extent). Contains (e.base ∷ []) x.base) (the_one e f has) (Contains-push [] e.base);
-  only = λ b has. (e, Contains-push [] e, the_one e.base b has, is);
 }
 
 pub flagged_not : (origin : ℕ) (flags : List Bool) (e : Extent) → (IsFlagged origin flags e.base → ⊥) → AreFlaggedBases origin (e ∷ []) flags []

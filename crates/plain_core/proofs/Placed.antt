@@ -9,7 +9,7 @@ use Rattle.heap_spec.specs.Sound.{IsSound, IsCell, ArePages}
 use Rattle.heap_spec.proofs.Calls.{calls_sound}
 use Rattle.heap_spec.proofs.Objects.{one_read}
 use Rattle.plain_core.specs.declared.extent.Extent.{Extent}
-use Rattle.plain_core.specs.Answering.{BirthsAreAlone}
+use Rattle.plain_core.specs.Answering.{BirthsAreAlone, StandsSoundly}
 use Rattle.plain_core.specs.PlainContents.{PlainContents, IsLaidOut, IsPlacedExtent, ArePlaced}
 use Rattle.plain_core.specs.Standing.{StandsFor}
 use Rattle.plain_core.proofs.Objects.{object_of}
@@ -29,6 +29,10 @@ are_placed c laid from s h sound = (
       laid_placed s.pages e (subst (λ n. IsCell s.pages e.base n ⊎ ArePages s.pages e.base n) o.2 (sound.objects.laid e.base o.0 o.1)))
       c.objects (All-contains_itself c.objects),
 )
+
+-- so they lie in a core that stands soundly
+pub placed_soundly : (c : PlainContents) → IsLaidOut c → StandsSoundly c → ArePlaced c
+placed_soundly c laid soundly = are_placed c laid soundly.origin soundly.heap soundly.stands soundly.sound
 
 pub births_alone : BirthsAreAlone
 births_alone s s' slot into words base kind o sound calls there newest = record {

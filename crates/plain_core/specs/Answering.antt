@@ -13,7 +13,7 @@ use Rattle.heap_spec.specs.Sound.{IsSound}
 use Rattle.heap_spec.specs.Steps.{Acts, Attaches, Calls, Step, with_register}
 use Rattle.roots.specs.Roots.{HasMutator}
 use Rattle.plain_core.specs.declared.extent.Extent.{Extent}
-use Rattle.plain_core.specs.PlainContents.{PlainContents, IsInHeap, ArePlaced}
+use Rattle.plain_core.specs.PlainContents.{PlainContents, IsInHeap}
 use Rattle.plain_core.specs.Places.{IsFresh}
 use Rattle.plain_core.specs.Anywhere.{with_words, Requests}
 use Rattle.plain_core.specs.Standing.{StandsFor}
@@ -74,13 +74,20 @@ heap_with s slot m into e = with_register (with_words s e.base e.kind e.length) 
 abbrev pub IsPut : PlainContents → ℕ → ℕ → Extent → PlainContents → Type 0
 IsPut old slot into e new = (m : Mutator) → HasMutator old.roots slot m → (s : Heap) → StandsFor old s → IsBornAt s e.base (heap_with s slot m into e) × StandsFor new (heap_with s slot m into e)
 
--- if the call is a request, objects lie where size classes place them
+-- The core begins where heaps with size classes do, and stands for a sound heap.
+pub record StandsSoundly (c : PlainContents) : Type 0 where
+  pub origin : c.origin ≡ FIRST_ADDRESS
+  pub heap : Heap
+  pub stands : StandsFor c heap
+  pub sound : IsSound heap
+
+-- if the call is a request, the core begins there and stands for a sound heap
 abbrev pub HasPlaces : PlainContents → Call → Type 0
-HasPlaces c call = (into words : ℕ) (kind : Kind) → call ≡ Alloc into words kind → ArePlaced c
+HasPlaces c call = (into words : ℕ) (kind : Kind) → call ≡ Alloc into words kind → StandsSoundly c
 
 -- the same, if it is granted
 abbrev pub GrantHasPlaces : PlainContents → Call → Reply → Type 0
-GrantHasPlaces c call reply = (into words : ℕ) (kind : Kind) → call ≡ Alloc into words kind → reply ≡ Done → ArePlaced c
+GrantHasPlaces c call reply = (into words : ℕ) (kind : Kind) → call ≡ Alloc into words kind → reply ≡ Done → StandsSoundly c
 
 -- A request was granted at the base.
 abbrev pub IsAllocatedAt : PlainContents → ℕ → ℕ → ℕ → Kind → ℕ → PlainContents → Type 0

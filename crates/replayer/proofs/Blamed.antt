@@ -15,7 +15,7 @@ use Rattle.plain_core.specs.declared.paths.PathStep.{PathStep}
 use Rattle.plain_core.specs.Standing.{StandsFor}
 use Rattle.plain_core.specs.Paths.{TellsPath}
 use Rattle.plain_core.specs.Flags.{IsFlagged}
-use Rattle.plain_core.specs.Wrongs.{IsWrong, TellsLowest, TellsUncollected, TellsUnforgotten}
+use Rattle.plain_core.specs.Wrongs.{IsWrong, TellsLowest, TellsUnforgotten}
 use Rattle.plain_core.proofs.Lowest.{alike}
 use Rattle.replayer.specs.declared.hint.Hint.{Hint}
 use Rattle.replayer.specs.declared.hint.Hint.TheVariants.{Nothing, Place, Forgot}
@@ -45,9 +45,6 @@ module _ (r : ReplayerContents) (start : Start) (run : Run) (f : Follows r start
 
     pub finish_wrong : (wrong : Option Wrong) → TellsUnforgotten r.core r.touched bases wrong → TellsLowest (IsWrongFinish start run bases) wrong
     finish_wrong wrong tells = alike Flagged (IsWrongFinish start run bases) to_run to_flags wrong (tells (heap_after start run) f.stands)
-
-pub collect_wrong : (r : ReplayerContents) (bases : List ℕ) (wrong : Option Wrong) → TellsUncollected r.core bases wrong → (start : Start) (run : Run) → Follows r start run → TellsLowest (IsWrongCollect start run bases) wrong
-collect_wrong r bases wrong tells start run f = tells (heap_after start run) f.stands
 
 -- a hint that names no bases says nothing wrong
 silent : (hint : Hint) → ((bases : Bor (List ℕ)) → hint ≡ Forgot bases → ⊥) → (Holds : List ℕ → Wrong → Type 0) (x : Wrong) → IsWrongHint Holds hint x → ⊥

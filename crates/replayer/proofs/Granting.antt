@@ -105,12 +105,6 @@ module _ (s : Heap) (slot : ℕ) (m : HeapMutator) (at : IsAttached s slot m) (d
         subst (λ (p : Object). IsBornSince s p.birth) (same_Some x.0 r (sym x.1 ∙ ap (λ k. (with_register (with_words s a kind n) slot m d a).objects k) (sym same) ∙ reads.0)) x.2);
   }
 
--- what a request answers that isn't granted leaves the heap
-act_stays : (s : Heap) (origin slot : ℕ) (m : HeapMutator) (d n : ℕ) (kind : Kind) {reply : Reply} {s' : Heap} → Grants s origin slot m d n kind reply s' → (reply ≡ Done → ⊥) → s' ≡ s
-act_stays s origin slot m d n kind (Grants.bad_size e) fair = refl
-act_stays s origin slot m d n kind Grants.full fair = refl
-act_stays s origin slot m d n kind (Grants.granted a l few room) fair = absurd (fair refl)
-
 -- nothing comes to a heap that stays
 stays : (s : Heap) → Gains s s (λ w. ⊥)
 stays s = record {

@@ -3,8 +3,7 @@ ghost use Rattle.std.specs.Prelude.{◌≡◌, IsTrue, false};
 ghost use Rattle.heap_spec.specs.Heap.{Mutator as HeapMutator};
 ghost use Rattle.heap_spec.specs.Replies.{IsStep, done_reply, word_reply, count_reply};
 ghost use Rattle.roots.specs.Roots.{HasMutator};
-ghost use Rattle.plain_core.specs.PlainContents.{ArePlaced};
-ghost use Rattle.plain_core.specs.Answering.{MayBePut, IsPut, IsAllocatedAt, CantAllocateAt, IsAllocatedAnywhere, CantAllocateAnywhere};
+ghost use Rattle.plain_core.specs.Answering.{MayBePut, IsPut, StandsSoundly, IsAllocatedAt, CantAllocateAt, IsAllocatedAnywhere, CantAllocateAnywhere};
 
 use super::Core;
 use crate::along::take_along;
@@ -70,10 +69,9 @@ impl Core {
     }
 
     /// Allocates a zeroed object of at least so many words where its size class has a place, and puts its base into a register.
-    /// This is a step where all objects lie where size classes place them (`ArePlaced`), as in every sound heap that begins where
-    /// heaps with size classes do (`objects_are_placed`).
+    /// This is a step of a core that begins where heaps with size classes do and stands for a sound heap.
     pub fn alloc(&mut self, slot: Slot, into: Reg, words: u64, kind: Kind) -> Result<(), Refusal>
-        ensures step { ArePlaced self.old → IsStep (StandsFor self.old) (Event.Mutator slot (Call.Alloc into words kind)) (done_reply result) (StandsFor self.new) }
+        ensures step { StandsSoundly self.old → IsStep (StandsFor self.old) (Event.Mutator slot (Call.Alloc into words kind)) (done_reply result) (StandsFor self.new) }
         ensures origin { self.new.origin ≡ self.old.origin }
     {
         self.mutator(slot).ok_or(Refusal::NoSlot)?;

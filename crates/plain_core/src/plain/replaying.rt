@@ -80,8 +80,7 @@ impl Core {
     }
 
     /// Makes a call, if this is its reply. Else nothing changes. Where a request is granted the core picks the place, which is a
-    /// step where all objects lie where size classes place them (`ArePlaced`), as in every sound heap that begins where heaps with
-    /// size classes do (`objects_are_placed`).
+    /// step of a core that begins where heaps with size classes do and stands for a sound heap.
     pub fn call_as(&mut self, slot: Slot, call: &Call, reply: &Reply) -> bool
         ensures yes { IsTrue result → GrantHasPlaces self.old call.now reply.now → IsStep (StandsFor self.old) (Event.Mutator slot call.now) reply.now (StandsFor self.new) }
         ensures no { result ≡ false → IsNoStep self.old (Event.Mutator slot call.now) reply.now }

@@ -1,13 +1,14 @@
 use Rattle.std.proofs.Common.{sym, ap, ◌∙◌, subst}
 use Rattle.words.specs.Placing.{placement_of}
 use Rattle.heap_spec.specs.Steps.{Acts}
-use Rattle.plain_core.specs.PlainContents.{PlainContents, ArePlaced}
+use Rattle.plain_core.specs.PlainContents.{PlainContents, IsLaidOut, ArePlaced}
 use Rattle.plain_core.specs.Standing.{StandsFor}
 use Rattle.roots.proofs.Refusals.{handed_on_none}
 use Rattle.plain_core.proofs.Stands.{refused_vacant, keeps_all}
 use Rattle.plain_core.proofs.Rooms.{place_of}
 use Rattle.plain_core.proofs.Alloc.{fits_by, limit_is, may_have, put_steps}
 use Rattle.plain_core.proofs.Owning.{found_by}
+use Rattle.plain_core.proofs.Placed.{placed_soundly}
 use Rattle.plain_core.proofs.plain.Core.alloc.Goals as goal
 
 pub place_for-requires-clause-found : goal.place_for-requires-clause-found
@@ -32,16 +33,16 @@ pub may_be_put-requires-clause-found : goal.may_be_put-requires-clause-found
 may_be_put-requires-clause-found c = rw (c.deref-3.ensures.value, c.deref-4.ensures.value) (found_by _ c.self.invariant.0 _ c.self.invariant.2)
 
 pub returns-then-not-may_be_put-clause-step : goal.returns-then-not-may_be_put-clause-step
-returns-then-not-may_be_put-clause-step c placed =
+returns-then-not-may_be_put-clause-step c soundly =
     let some = rw (c.in_ok-object.ensures.ok_part, c.deref.ensures.value) at c.place_for.ensures.some in
-    let fits = may_have _ c.self.invariant.0 c.args.words _ _ c.in_ok-object.object (subst ArePlaced (sym c.self.view_is) placed) (sym c.placement.ensures.placement ∙ c.in_ok-placement.ensures.ok_part) some.1 some.2 in
+    let fits = may_have _ c.self.invariant.0 c.args.words _ _ c.in_ok-object.object (subst ArePlaced (sym c.self.view_is) (placed_soundly _ (subst IsLaidOut c.self.view_is c.self.invariant.0) soundly)) (sym c.placement.ensures.placement ∙ c.in_ok-placement.ensures.ok_part) some.1 some.2 in
     absurd (c.may_be_put.ensures.no c.if-not-may_be_put.true fits.in_heap (rw c.deref-3.ensures.value fits.fresh))
 
 pub put-requires-clause-fits : goal.put-requires-clause-fits
 put-requires-clause-fits c = let yes = c.may_be_put.ensures.yes c.if-not-may_be_put.false in fits_by _ _ c.self.view_is _ c.deref-3.ensures.value _ yes.0 yes.1
 
 pub returns-clause-step : goal.returns-clause-step
-returns-clause-step c placed =
+returns-clause-step c _ =
     let some = rw (c.in_ok-object.ensures.ok_part, c.deref.ensures.value) at c.place_for.ensures.some in
     let at = rw c.in_ok-ok_or.ensures.ok_part at c.mutator.ensures.some in
     let is = sym c.placement.ensures.placement ∙ c.in_ok-placement.ensures.ok_part in
