@@ -4,17 +4,7 @@
 //! `draw --pages N FILE` prints the trace of the script in FILE, `draw --pages N --run FILE` that of the run in FILE; the
 //! wrapper `mpheap` joins it with the page that shows it.
 //!
-//! # What is proved
-//!
-//! What is written of a line of a script is the text of its command, of the core's reply and of what the tracer says is
-//! different, which was told both and the core as it was then (`written`, `IsDrawn`). What is written of a line of a run
-//! is the same, of the line's command and reply, where the tracer was told these, what the line says beside them, and no
-//! core (`run_written`, `IsRunDrawn`); of the line that is refused it is the line itself and what is said of it
-//! (`refusal_written`, `IsRefusalDrawn`): a sentence, that of the reply which it had to have, if one is told, and one more
-//! if something is wrong with an object (`sentences`, `AreSentences`). The words of the first and of the last are only
-//! tested. What is written of a run is what it is judged to be (`draw_run`, `DrawsRun`): of a legal one the first line and a
-//! record of each line that is told, in their order; of any other run that has lines the same up to the line that is
-//! refused, that line, and nothing behind it.
+//! docs/CRATES.md tells the rest: what is proved.
 #![tactic(auto)]
 
 ghost use Rattle.std.specs.Prelude.{◌≤◌};

@@ -13,7 +13,7 @@ use Rattle.heap_spec.specs.declared.reply.Reply.TheVariants.{Done, Refused}
 use Rattle.heap_spec.specs.Heap.{Heap, Object, Mutator as HeapMutator, HasObject, with_at}
 use Rattle.heap_spec.specs.Cycles.{TakesOut}
 use Rattle.heap_spec.specs.Histories.{Happens}
-use Rattle.heap_spec.specs.Runs.{Start, Run, Touched, heap_after}
+use Rattle.heap_spec.specs.Runs.{Start, Run, heap_after}
 use Rattle.heap_spec.specs.Steps.{Acts, Attaches, Calls, acts, vacant, register}
 use Rattle.heap_spec.specs.Transcripts.{LineOf}
 use Rattle.heap_spec.proofs.Objects.{at_cases, with_at-same, with_at-other}

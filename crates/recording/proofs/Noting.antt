@@ -11,7 +11,7 @@ use Rattle.heap_spec.specs.declared.reply.Reply.{Reply}
 use Rattle.heap_spec.specs.declared.reply.Reply.TheVariants.{Done, Count, Refused}
 use Rattle.heap_spec.specs.Layout.{word_end}
 use Rattle.heap_spec.specs.Cycles.{TakesOut}
-use Rattle.heap_spec.specs.Runs.{Start, Run, Touched, heap_after}
+use Rattle.heap_spec.specs.Runs.{Start, Run, heap_after}
 use Rattle.heap_spec.specs.Steps.{Calls}
 use Rattle.heap_spec.specs.Transcripts.{LineOf}
 use Rattle.heap_core.specs.CoreContents.{CoreContents}

@@ -14,10 +14,11 @@ mod options;
 use crate::options::{Asked, read_words};
 use plain_core::PathStep;
 use programs::{Fault, end, own_words};
+use retelling::{Journal, first_text, hop_text};
 use scripts::Std;
 use std::fs;
 use std::process::ExitCode;
-use written_runs::{Explained, Judgement, Verdict, explain, reply_text, step_text, wrong_text};
+use written_runs::{Explained, Judgement, Verdict, explain, reply_text, wrong_text};
 
 // Prints what is said of a run, and gives the status that goes with it.
 fn print_verdict(rt: &HostRuntime, verdict: Verdict) -> Result<u8, Fault> {
@@ -66,29 +67,74 @@ fn print_wrong(rt: &HostRuntime, line: u64, judgement: &Judgement) -> Result<(),
     print_about(rt, line, text.as_str())
 }
 
-// Prints a path from a root to the object that has to stay, a line for each step.
-fn print_path(rt: &HostRuntime, line: u64, path: &[PathStep]) -> Result<(), Fault> {
-    for step in path {
-        let Ok(text) = step_text(rt.alloc(), step) else {
-            return Err(Fault::Memory);
-        };
-        print_about(rt, line, text.as_str())?;
+// How many steps of a path are shown at each of its ends, where not all are asked for.
+const ENDS: usize = 6;
+
+// Prints a path from a root to the object that has to stay, a line for each step, or of a long one both ends.
+fn print_path(
+    rt: &HostRuntime,
+    line: u64,
+    journal: &Journal,
+    path: &[PathStep],
+    why: bool,
+) -> Result<(), Fault> {
+    let count = path.len();
+    for (at, step) in path.iter().enumerate() {
+        if why || at < ENDS || count.wrapping_sub(at) <= ENDS {
+            let Ok(text) = hop_text(rt.alloc(), journal, step) else {
+                return Err(Fault::Memory);
+            };
+            print_about(rt, line, text.as_str())?;
+        } else if at == ENDS {
+            print_about(rt, line, "and so on: --why shows all steps")?;
+        }
+    }
+    Ok(())
+}
+
+// Prints what a line did that isn't legal, and the path to an object that it took.
+fn print_deed(
+    rt: &HostRuntime,
+    line: u64,
+    asked: &Asked,
+    text: &str,
+    said: &Explained,
+) -> Result<(), Fault> {
+    let Ok(journal) = Journal::of(rt.alloc(), text, line) else {
+        return Err(Fault::Memory);
+    };
+    let Ok(first) = first_text(
+        rt.alloc(),
+        &journal,
+        &asked.range(),
+        text,
+        line,
+        &said.judgement,
+    ) else {
+        return Err(Fault::Memory);
+    };
+    print_about(rt, line, first.as_str())?;
+    if let Some(path) = &said.path {
+        print_path(rt, line, &journal, path.as_slice(), asked.why)?;
     }
     Ok(())
 }
 
 // Prints all that is said of a run, and gives the status that goes with it.
-fn print_explained(rt: &HostRuntime, said: &Explained) -> Result<u8, Fault> {
+fn print_explained(
+    rt: &HostRuntime,
+    asked: &Asked,
+    text: &str,
+    said: &Explained,
+) -> Result<u8, Fault> {
     let verdict = said.judgement.verdict;
-    let status = print_verdict(rt, verdict)?;
     let Verdict::Breaks(line, _) = verdict else {
-        return Ok(status);
+        return print_verdict(rt, verdict);
     };
+    print_deed(rt, line, asked, text, said)?;
+    let status = print_verdict(rt, verdict)?;
     print_expected(rt, line, &said.judgement)?;
     print_wrong(rt, line, &said.judgement)?;
-    if let Some(path) = &said.path {
-        print_path(rt, line, path.as_slice())?;
-    }
     Ok(status)
 }
 
@@ -100,14 +146,8 @@ fn check(rt: &HostRuntime, asked: Asked, file: &str) -> Result<u8, Fault>
         Ok(text) => text,
         Err(error) => return Err(Fault::of_read(&error)),
     };
-    match explain(
-        rt.alloc(),
-        asked.pages,
-        asked.places,
-        text.as_str(),
-        asked.why,
-    ) {
-        Ok(said) => print_explained(rt, &said),
+    match explain(rt.alloc(), asked.pages, asked.places, text.as_str(), true) {
+        Ok(said) => print_explained(rt, &asked, text.as_str(), &said),
         Err(_) => Err(Fault::Memory),
     }
 }

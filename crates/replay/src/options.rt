@@ -3,6 +3,7 @@ ghost use Rattle.std.specs.Prelude.{◌≤◌, IfSome, length};
 ghost use Rattle.words.specs.declared.limits.TheConstants.{MAX_PAGES};
 ghost use Rattle.written_runs.specs.Ranges.{HasRange};
 
+use retelling::Range;
 use words::limits::FIRST_ADDRESS;
 use written_runs::{Places, address_given, bytes_given, pages_given, places_given};
 
@@ -17,6 +18,20 @@ pub(crate) struct Asked {
 
     /// Whether a path is asked for.
     pub(crate) why: bool,
+}
+
+impl Asked {
+    /// Where the heap lies.
+    pub(crate) fn range(&self) -> Range {
+        let from = match self.places {
+            Places::Classes => FIRST_ADDRESS,
+            Places::Any(from) => from,
+        };
+        Range {
+            from,
+            pages: self.pages,
+        }
+    }
 }
 
 // The options that were read so far.

@@ -5,7 +5,7 @@ use Rattle.std.specs.List.{AllZip}
 use Rattle.std.specs.Io.KnownBytes.{Consumes, Appends, IsAtEnd}
 use Rattle.std.proofs.lemmas.List.{map_push, append-nil}
 use Rattle.std.proofs.lemmas.List.Elements.{All-push, All-nil}
-use Rattle.heap_spec.specs.Runs.{Start, Told, Run, Touched, opening_start}
+use Rattle.heap_spec.specs.Runs.{Start, Told, Run, opening_start}
 use Rattle.heap_spec.specs.Transcripts.{LegalTranscript, LineOf, ends, on}
 use Rattle.heap_core.specs.CoreContents.{CoreContents}
 use Rattle.heap_core.specs.Opening.{IsNew}

@@ -3,7 +3,7 @@ use Rattle.std.proofs.Common.{◌≡◌, ℕ, ◌+◌, List, [], length, map}
 use Rattle.std.specs.Prelude.{Option, All}
 use Rattle.std.specs.List.{AllZip}
 use Rattle.std.specs.Io.KnownBytes.{Consumes, Appends}
-use Rattle.heap_spec.specs.Runs.{Told, Run, Touched, opening_start}
+use Rattle.heap_spec.specs.Runs.{Told, Run, opening_start}
 use Rattle.heap_spec.specs.Transcripts.{LegalTranscript}
 use Rattle.heap_core.specs.CoreContents.{CoreContents}
 use Rattle.heap_core.specs.Following.{Follows}

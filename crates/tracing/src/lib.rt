@@ -5,15 +5,7 @@
 //! (which objects are there, reached and touched, and the words) from the checker, which is told the same events,
 //! replies and hints. Each question is no event. The same without a core shows a run that was written down.
 //!
-//! # What is proved
-//!
-//! `Tracer::tell` goes on by an event where the checker says yes, and says how what was seen before became what is seen
-//! now (`IsTold`); where it says no, nothing changes. What is seen is what the core and the checker have (`IsSeen`),
-//! and what is said of objects, sets, links, entries, the phase and the count leads from the one to the other. Of a step
-//! of marking those words of marked objects are said to be read by which the entries went on, if they are as many as the
-//! reply counts, and else none (`looked_by`). Of registers, stacks, globals and the heap those words are said that such
-//! an event writes, as they are now; that it writes no others is what the sequential heap says of it (`Steps`), and no
-//! clause here.
+//! docs/CRATES.md tells the rest: what is proved.
 #![tactic(auto)]
 
 mod changes;

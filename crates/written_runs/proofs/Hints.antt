@@ -1,15 +1,14 @@
 -- What stands behind a reply, read base by base.
-use Rattle.std.proofs.Common.{◌≡◌, ℕ, ◌<◌, List, [], ◌∷◌, ◌++◌, length, Bor, refl, sym, ap, ◌∙◌, subst, arith, append_assoc}
-use Rattle.std.specs.Global.{Vec}
+use Rattle.std.proofs.Common.{◌≡◌, ℕ, ◌<◌, List, [], ◌∷◌, ◌++◌, length, refl, sym, ap, ◌∙◌, subst, arith, append_assoc}
 use Rattle.std.specs.Prelude.{All, codes, decimal}
 use Rattle.std.proofs.lemmas.List.{append-nil, append_cancel_left}
 use Rattle.std.proofs.lemmas.List.Concat.{flat_map-append}
-use Rattle.std.proofs.lemmas.List.Elements.{All-nil, All-cons, All-head, All-tail, All-push}
+use Rattle.std.proofs.lemmas.List.Elements.{All-nil, All-head, All-tail, All-push}
 use Rattle.heap_spec.specs.Ranges.{IsWord}
 use Rattle.replayer.specs.declared.hint.Hint.{Hint}
 use Rattle.replayer.specs.declared.hint.Hint.TheVariants.{Nothing, Place, Forgot}
 use Rattle.written_runs.specs.Written.{bases_text}
-use Rattle.written_runs.specs.declared.behind.Behind.TheVariants.{Nothing as NothingBehind, Place as PlaceBehind, Object, Bases}
+use Rattle.written_runs.specs.declared.behind.Behind.TheVariants.{Nothing as NothingBehind, Bases}
 use Rattle.written_runs.specs.declared.places.Places.{Places}
 use Rattle.written_runs.specs.declared.places.Places.TheVariants.{Classes, Any}
 use Rattle.written_runs.specs.Reading.{IsNumberAt, IsOnlyNumber, AreBases, IsBehind, IsHintText}
@@ -59,49 +58,18 @@ pub read_all : (text bases rest : List ℕ) → IsReadTo text bases rest → len
 read_all text bases [] read none = record { whole = read.whole ∙ append-nil (bases_text bases); words = read.words }
 read_all text bases (b ∷ rest) read none = absurd (omega arith)
 
--- a number that a text is behind a space, and no text where this is none
-pub no_only_space : (text : List ℕ) → ((rest : List ℕ) → text ≡ codes " " ++ rest → ⊥) → (n : ℕ) → IsOnlyNumber text n → ⊥
-no_only_space text none n is = none (decimal n) is.whole
-
-pub no_only_number : (text word : List ℕ) → text ≡ codes " " ++ word → ((n : ℕ) → IsWord n → word ≡ decimal n → ⊥) → (n : ℕ) → IsOnlyNumber text n → ⊥
-no_only_number text word e none n is = none n is.word (append_cancel_left (codes " ") word (decimal n) (sym e ∙ is.whole))
-
--- two numbers, each behind a space
-pub two_numbers : (text rest : List ℕ) (base n : ℕ) → IsNumberAt text base rest → IsOnlyNumber rest n → AreBases text (base ∷ n ∷ [])
-two_numbers text rest base n at is = record {
-  whole = at.whole ∙ ap (λ r. codes " " ++ (decimal base ++ r)) (is.whole ∙ sym (append-nil (codes " " ++ decimal n))) ∙ sym (append_assoc (codes " ") (decimal base) (bases_text (n ∷ [])));
-  words = All-cons IsWord base (n ∷ []) at.word (All-cons IsWord n [] is.word (All-nil IsWord));
 }
 
 first_of_two : (text : List ℕ) (base n : ℕ) → AreBases text (base ∷ n ∷ []) → IsNumberAt text base (bases_text (n ∷ []))
 first_of_two text base n are = record { whole = are.whole ∙ append_assoc (codes " ") (decimal base) (bases_text (n ∷ [])); word = All-head IsWord base (n ∷ []) are.words; from = refl }
-
-pub no_first : (text : List ℕ) → ((n : ℕ) (rest : List ℕ) → IsNumberAt text n rest → ⊥) → (base n : ℕ) → AreBases text (base ∷ n ∷ []) → ⊥
-no_first text none base n are = none base (bases_text (n ∷ [])) (first_of_two text base n are)
 
 pub no_second : (text rest : List ℕ) (a : ℕ) → IsNumberAt text a rest → ((n : ℕ) → IsOnlyNumber rest n → ⊥) → (base n : ℕ) → AreBases text (base ∷ n ∷ []) → ⊥
 no_second text rest a at none base n are =
     let same = (same_number text a base rest (bases_text (n ∷ [])) at (first_of_two text base n are)).rest in
     none n (record { whole = same ∙ append-nil (codes " " ++ decimal n); word = All-head IsWord n [] (All-tail IsWord base (n ∷ []) are.words) })
 
--- a place where objects lie in classes, and where they may lie anywhere
-pub place_here : (text : List ℕ) (base : ℕ) → IsOnlyNumber text base → IsBehind Classes (codes " @" ++ text) (PlaceBehind base)
-place_here text base is = record { whole = ap (λ t. codes " @" ++ t) is.whole; words = is.word; suits = refl }
-
-pub object_here : (from : ℕ) (text : List ℕ) (base n : ℕ) → AreBases text (base ∷ n ∷ []) → IsBehind (Any from) (codes " @" ++ text) (Object base n)
-object_here from text base n are = record {
-  whole = ap (λ t. codes " @" ++ t) are.whole;
-  words = (All-head IsWord base (n ∷ []) are.words, All-head IsWord n [] (All-tail IsWord base (n ∷ []) are.words));
-  suits = tt;
 }
 
-pub no_place_here : (text : List ℕ) → ((n : ℕ) → IsOnlyNumber text n → ⊥) → (base n : ℕ) → IsHintText Classes (codes " @" ++ text) (Place base) n → ⊥
-no_place_here text none base n is = none base (record { whole = append_cancel_left (codes " @") text (codes " " ++ decimal base) is.whole; word = is.words })
-
-pub no_object_here : (from : ℕ) (text : List ℕ) → ((base n : ℕ) → AreBases text (base ∷ n ∷ []) → ⊥) → (base n : ℕ) → IsHintText (Any from) (codes " @" ++ text) (Place base) n → ⊥
-no_object_here from text none base n is = none base n (record {
-  whole = append_cancel_left (codes " @") text (bases_text (base ∷ n ∷ [])) is.whole;
-  words = All-cons IsWord base (n ∷ []) is.words (All-cons IsWord n [] is.size (All-nil IsWord));
 })
 
 -- A text that is that of no hint, by what hints there are.
@@ -140,15 +108,3 @@ module _ (text : List ℕ) (some : text ≡ [] → ⊥) where
 pub hint_of : (places : Places) (text : List ℕ) → IsBehind places text NothingBehind → IsHintText places text Nothing 0
 hint_of Classes text is = record { whole = is.whole; words = tt; size = tt }
 hint_of (Any from) text is = record { whole = is.whole; words = tt; size = refl }
-
-pub hint_of_place : (places : Places) (text : List ℕ) (base : ℕ) → IsBehind places text (PlaceBehind base) → IsHintText places text (Place base) 0
-hint_of_place Classes text base is = record { whole = is.whole; words = is.words; size = tt }
-hint_of_place (Any from) text base is = let no : ⊥ = cc in absurd no
-
-pub hint_of_object : (places : Places) (text : List ℕ) (base n : ℕ) → IsBehind places text (Object base n) → IsHintText places text (Place base) n
-hint_of_object (Any from) text base n is = record { whole = is.whole; words = is.words.0; size = is.words.1 }
-hint_of_object Classes text base n is = absurd is.suits
-
-pub hint_of_bases : (places : Places) (text : List ℕ) (bases : Vec ℕ) (named : Bor (List ℕ)) → named.now ≡ bases.items → IsBehind places text (Bases bases) → IsHintText places text (Forgot named) 0
-hint_of_bases Classes text bases named e is = record { whole = is.whole ∙ ap (λ bs. codes " -" ++ bases_text bs) (sym e); words = subst (All IsWord) (sym e) is.words; size = tt }
-hint_of_bases (Any from) text bases named e is = record { whole = is.whole ∙ ap (λ bs. codes " -" ++ bases_text bs) (sym e); words = subst (All IsWord) (sym e) is.words; size = refl }

@@ -105,11 +105,6 @@ no_item : (lines : List (List ℕ)) → length lines ≡ 0 → lines ≡ []
 no_item [] none = refl
 no_item (l ∷ lines) none = absurd (omega arith)
 
--- and none was told
-pub ended_empty : (places : Places) (pages : ℕ) (text rest : List ℕ) (number told : ℕ) (replayer : ReplayerContents) → IsUpTo places pages text rest number told replayer → length rest ≡ 0 → told ≡ 0 → IsJudged places pages (lines_of text) NoLines
-ended_empty places pages text rest number told replayer u none zero =
-    ap told_lines (sym (all_read places pages text rest number told replayer u none)) ∙ no_item (told_lines u.lines) (sym u.told_are ∙ zero)
-
 -- A line was reached that the replayer doesn't go on by.
 module _ (places : Places) (pages : ℕ) (text rest behind line : List ℕ) (number told : ℕ) (old : ReplayerContents) (u : IsUpTo places pages text rest number told old) (parted : lines_of rest ≡ line ∷ lines_of behind) where
   fault : (Fault : Run → List ℕ → Type 0) (n : ℕ) → IsToldAt n (number + 1) line → Fault u.run line → HasFault places Fault (opening_start pages) (lines_of text) n
