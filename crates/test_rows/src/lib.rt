@@ -1,6 +1,6 @@
 //! The rows of `tests/rows` by the library's call: each script is run from a reader to a writer in memory, and what is written is compared.
 //! `tests/rows/as_tests` writes the files of rows, and `tests/rows.sh`, which runs the same rows by the proved programs, fails where one of them
-//! says something else. The largest tables are run there alone: a check takes no table of more than 24,000 bytes.
+//! says something else. A check takes no file of more than some 20,000 bytes, so some tables stand in two.
 #![tactic(auto)]
 
 #[cfg(test)]
@@ -16,11 +16,23 @@ mod cut_again;
 #[cfg(test)]
 mod edges;
 #[cfg(test)]
+mod finding;
+#[cfg(test)]
+mod finding_2;
+#[cfg(test)]
 mod full_mark_stack;
 #[cfg(test)]
 mod linking;
 #[cfg(test)]
+mod marking;
+#[cfg(test)]
+mod marking_2;
+#[cfg(test)]
 mod partial_cycles;
+#[cfg(test)]
+mod rooms;
+#[cfg(test)]
+mod rooms_2;
 #[cfg(test)]
 mod row;
 #[cfg(test)]
