@@ -5,15 +5,7 @@
 //! `Transcripts`. `Ranges`, `Replies` and `SequentialObject` are what contracts of other crates cite, and `Sound` and
 //! `Laws` say what holds of it all.
 //!
-//! # What is proved
-//!
-//! Of the definitions, as contracts of the functions of the module `laws`: every run of a new heap is sound (`runs_are_sound`:
-//! objects are cells or whole pages, apart, inside the heap; births are distinct; words are below 2^64), a word points into at
-//! most one object, the closure is the least set that its rules keep, monotone and idempotent; collections keep what is reached,
-//! and a full one nothing else (`finish_keeps_reached`, `collect_keeps_reached`); what is touched is closed and holds what is
-//! reached, and what isn't touched in a cycle that began with the marks of the last one is young (`untouched_are_young`); a call
-//! has one outcome but for the place of an allocation; a refused call changes nothing; a load answers the last store. The module
-//! `answers` turns the result of a call into its reply.
+//! docs/CRATES.md tells the rest: what is proved.
 #![tactic(auto)]
 
 pub mod answers;
