@@ -23,7 +23,7 @@ enum kind { IF_FRAME, DEFINE_FRAME, CALL_FRAME, LAST_FRAME };
 enum { NIL = 0 };
 
 static mpheap heap = MPHEAP_CLOSED;
-static mpheap_told told;
+static mpheap_told told = MPHEAP_TOLD;
 static mpheap_pace pace;
 static uint8_t me;
 static word *state;
