@@ -16,7 +16,7 @@ export TMPDIR=$room/temporary
 tree=$room/tree
 real_path=$PATH
 stand_in=$room/bin:$PATH
-for part in words unproved once building real; do
+for part in words unproved once building packing real; do
     # shellcheck source=/dev/null
     . "$top/tests/wrapper/$part.sh"
 done
@@ -73,14 +73,18 @@ try_ends() {
     try_answers "$1" "$2" "${3-}" "checked: ended status=$1" "run=ended status=$1 runners=1 proved=no"
 }
 
-# refused STATUS LAST WHAT WORDS..: words that no program takes are refused before anything is built; WHAT says why, and LAST is
-# the program's own text.
-refused() {
-    call "${@:4}"
-    is "${*:4}: status" "$1" "$status"
-    is "${*:4}: the program's own text" "$2" "$(tail -n 1 "$room/err")"
-    is "${*:4}: which word" "mpheap: $3" "$(head -n 1 "$room/err")"
-    is "${*:4}: nothing is built or replied" "" "$(calls)$out"
+# no_file WHAT WORDS..: a FILE that can't be read is told before anything is built, with the program's own text and status.
+no_file() {
+    call "${@:2}"
+    is "${*:2}: status, the program's own text" "1 read fault" "$status $(tail -n 1 "$room/err")"
+    is "${*:2}: which file" "mpheap: $1" "$(head -n 1 "$room/err")"
+    is "${*:2}: nothing is built or replied" "" "$(calls)$out"
+}
+
+# answers WHAT WORDS..: what these words print to standard output, with status 0, and nothing else; nothing is built.
+answers() {
+    call "${@:2}"
+    is "$1: status, what is said, rt's calls" "0  " "$status $err $(calls)"
 }
 
 # within MOST SECONDS: yes, or how many it were.
@@ -132,23 +136,26 @@ open_room() {
 
 PATH=$real_path start_real_runs
 open_room
-usage_comes_first
+it_says_how_it_is_used
+versions_are_told
+words_are_completed
+a_manual_is_there
+nothing_is_made_before_a_build
 a_build_is_kept_by_its_sources
 a_kept_build_is_called_as_it_is
 builds_that_fail_keep_nothing
 nothing_goes_without_rt
 the_other_way_is_found
 words_stay_as_they_are
+words_come_in_any_order
 each_program_is_called_by_its_name
 a_drawn_run_is_a_page
-wrong_words_are_told
-replay_takes_options_in_any_order
-replay_takes_a_range
 limits_are_the_programs
 limits_are_told_first
 file_is_the_callers
 input_is_read_to_its_end
 a_signal_ends_a_run
+an_ignored_signal_ends_nothing
 answers_are_handed_on
 no_answer_is_status_three
 build_shows_its_way
@@ -156,9 +163,11 @@ parts_are_built_alone
 call build
 proved_is_said_where_it_is_true
 the_heap_for_c_is_copied
+a_package_is_made
 failed_builds_prove_nothing
 a_programs_answer_is_no_failed_proof
 a_stopped_build_leaves_nothing
+long_work_shows_progress
 found_from_everywhere
 is "no folder is left behind" "" "$(ls -A "$TMPDIR")"
 real_runs

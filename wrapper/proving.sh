@@ -1,4 +1,4 @@
-# shellcheck shell=sh disable=SC2034,SC2154 # (mpheap has the other names, and reads these)
+# shellcheck shell=bash disable=SC2034,SC2154 # (mpheap has the other names, and reads these)
 # Part of the wrapper mpheap, read by it: how crates are proved and built: by rt's gate, over a copy of what is wanted and no more.
 # rt proves as many crates at once as there are processors and memory, goes on with those that don't stand on one that failed, and
 # keeps on its machine what it proved, by sums, so that a later build goes on from there. It runs a program only once that is proved
@@ -6,20 +6,21 @@
 
 # prove_and_build CRATE..: proves these crates and those below them, and puts what is built of them in its place.
 prove_and_build() {
+    local crate all at=0 began tree=$room/tree
     need_rt "a build"
-    tree=$room/tree
     plant_tree "$@" || no_answer "the crates can't be copied to $tree"
-    total=$(needed_in "$here" "$@" | wc -l)
-    say "proves $total crates and builds $*; what was proved before isn't proved again; from nothing all take tens of minutes"
+    mapfile -t all < <(needed_in "$here" "$@")
+    note "proves ${#all[@]} crates and builds $*; what was proved before isn't proved again; from nothing all take tens of minutes"
     work="the next build goes on with what rt has kept of this one"
     run_gate
-    work=
+    work=''
     for crate in "$@"; do bring "$crate"; done
-    [ "$at" != 0 ] || { tail -n 15 "$room/told" >&2 && say "rt judged nothing: again by 'cd $here && rt ci $*'"; }
+    [[ $at != 0 ]] || { tail -n 15 "$room/told" >&2 && say "rt judged nothing: again by 'cd $here && rt ci $*'"; }
 }
 
 # plant_tree CRATE..: a copy of the files from which these are made. rt takes a folder with .git for the top of a repository.
 plant_tree() {
+    local crate part
     mkdir -p "$tree/.git" "$tree/crates" && cp "$here/HANDLES" "$tree" && rows_in "$here" "$@" >"$tree/crates.txt" || return
     for crate in $(needed_in "$here" "$@"); do
         mkdir "$tree/crates/$crate" || return
@@ -32,45 +33,69 @@ plant_tree() {
     done
 }
 
+# run_gate: with the crates of the tree in `all`, tells how far it is.
 run_gate() {
-    mkdir "$room/rt"
+    local line crate last=0
+    mkdir -p "$room/rt"
     mkfifo "$room/telling" || no_answer "no pipe can be made in $room"
-    (cd "$tree" && TMPDIR=$room/rt exec rt ci) </dev/null >"$room/telling" 2>&1 &
+    (cd "$tree" && TMPDIR=$room/rt exec setsid rt ci) </dev/null >"$room/telling" 2>&1 &
     child=$!
-    began=$(date +%s)
-    at=0
-    runs_otherwise=
+    began=$SECONDS
     : >"$room/told"
+    tell_progress
     while IFS= read -r line; do
         printf '%s\n' "$line" >>"$room/told"
         crate=${line#rt: }
         crate=${crate%% *}
         tell "${crate%:}" "$line"
     done <"$room/telling"
-    wait_for_child "$child"
+    end_progress
+    wait_for_child "$child" || true
 }
 
 # tell CRATE LINE: what a line of rt's says of a crate.
 tell() {
     case $2 in
         *": proved") ;;
-        "rt: $1 is kept: "*) tell_end "$1" "proved before, of the same sources" ;;
-        "rt: $1 proved") tell_end "$1" "proved, after $(($(date +%s) - began)) s" ;;
-        "rt: $1 NOT PROVED: its library "*) tell_end "$1" "not tried, as ${2#*: its library }" ;;
-        "rt: $1 NOT PROVED") tell_end "$1" "not proved" && show_failed "$1" ;;
+        "rt: $1 is kept: "*) tell_end "$1" ;;
+        "rt: $1 proved")
+            keep_took "$1" $((SECONDS - began - last))
+            last=$((SECONDS - began))
+            tell_end "$1"
+            ;;
+        "rt: $1 NOT PROVED: its library "*)
+            say "$1: not tried, as ${2#*: its library }"
+            tell_end "$1"
+            ;;
+        "rt: $1 NOT PROVED")
+            show_failed "$1"
+            tell_end "$1"
+            ;;
         "rt: $1: the program "* | "rt: $1: what the program "* | "rt: $1 was not run: "*) show_run "$1" "${2#rt: }" ;;
         "rt: note: "*) say "${2#rt: note: }" ;;
     esac
 }
 
-# tell_end CRATE WHAT
+# tell_end CRATE: no more is to be done of it.
 tell_end() {
+    local one left=()
     at=$((at + 1))
-    say "$at of $total, $1: $2"
+    for one in "${all[@]}"; do [[ $one = "$1" ]] || left+=("$one"); done
+    all=("${left[@]}")
+    tell_progress "$1"
+}
+
+# tell_progress CRATE: which crate was the last, of how many, and how long the others took in earlier builds.
+tell_progress() {
+    local seconds
+    shows_progress || return 0
+    seconds=$(took "${all[@]}")
+    progress "$at of $((at + ${#all[@]}))${1:+, $1}${seconds:+, about $(((seconds + 59) / 60)) min left by what earlier builds took}"
 }
 
 # show_failed CRATE: the last lines of what rt said of its proof, where its sources are, and how its proof is tried again.
 show_failed() {
+    end_progress
     awk -v crate="$1" '/^== / { here = $2 == crate; next } /: proved$|^statements |^logic / { next } here' "$room/told" | tail -n 15 >&2
     say "$1 is refused by rt, as it says above: its folder is $here/crates/$1; again by 'cd $here/crates/$1 && rt check'"
 }
@@ -79,16 +104,17 @@ show_failed() {
 show_run() {
     say "$1 is proved and built, but runs otherwise than the files beside it say: $2"
     say "its folder is $here/crates/$1; again by 'cd $here && rt ci $1'"
-    runs_otherwise="$runs_otherwise $1"
+    runs_otherwise+=("$1")
 }
 
 # bring CRATE: puts its build from the tree in its place, with a record of what it was made from.
 bring() {
-    grep -q "^rt: $1 \(proved$\|is kept: \)" "$room/told" || return
-    [ "$1" != mpheap_c ] || by_tools "$here/mpheap build c" "$here/c/library" "$tree" || return
+    local place from
+    grep -q "^rt: $1 \(proved$\|is kept: \)" "$room/told" || return 0
+    [[ $1 != mpheap_c ]] || by_tools "$here/mpheap build c" "$here/c/library" "$tree" || return 0
     place=$(built "$1")
     from=$tree${place#"$here"}
-    [ -f "$from" ] || return
+    [[ -f $from ]] || return 0
     put "$from" "$place" || no_answer "$place can't be written"
     rt version >"$place.rules"
     record_of "$tree" "$1" "$place" >"$place.sources"

@@ -1,4 +1,4 @@
-# shellcheck shell=sh disable=SC2154 # (mpheap has the other names)
+# shellcheck shell=bash disable=SC2034,SC2154,SC2164 # (mpheap has the other names, and reads these)
 # Part of the wrapper mpheap, read by it: of which sources a build was made. A build is of those that stand here if the record beside it
 # has the sums of the same files, and its own sum.
 
@@ -34,12 +34,13 @@ rows_in() {
 
 # source_sums TREE CRATE..: a sum of each file there that they are made from: those that rt reads, which have these names.
 source_sums() (
-    cd "$1" || exit
+    cd "$1"
     shift
     # shellcheck disable=SC2046 # (each name becomes three words)
-    find $(needed_in . "$@" | sed 's|.*|crates/&/src crates/&/specs crates/&/proofs|') \
-        -type f \( -name '*.rt' -o -name '*.antt' \) -print0 2>/dev/null |
-        LC_ALL=C sort -z | xargs -0 sha256sum -- HANDLES && rows_in . "$@" | sha256sum
+    { find $(needed_in . "$@" | sed 's|.*|crates/&/src crates/&/specs crates/&/proofs|') \
+        -type f \( -name '*.rt' -o -name '*.antt' \) -print0 2>/dev/null || true; } | # (not each crate has all three)
+        LC_ALL=C sort -z | xargs -0 sha256sum -- HANDLES
+    rows_in . "$@" | sha256sum
 )
 
 # record_of TREE CRATE FILE: what the record of this build of it has to say.
@@ -49,14 +50,14 @@ record_of() {
 
 # is_package: no sources stand here, but the programs that were packed.
 is_package() {
-    [ -d "$here/programs" ]
+    [[ -d $here/programs ]]
 }
 
 # built CRATE: where its proved build lies.
 built() {
     if is_package; then
         echo "$here/programs/$1"
-    elif [ "$1" = mpheap_c ]; then
+    elif [[ $1 = mpheap_c ]]; then
         echo "$here/crates/mpheap_c/out/libmpheap_c.a"
     else
         echo "$here/crates/$1/out/$1"
@@ -66,7 +67,7 @@ built() {
 # is_proved CRATE: its proved build was made from the sources that stand here.
 is_proved() {
     ! is_package || return 0
-    [ -f "$(built "$1")" ] && [ -f "$(built "$1").sources" ] && [ "$(record_of "$here" "$1" "$(built "$1")")" = "$(cat "$(built "$1").sources")" ]
+    [[ -f $(built "$1") && -f $(built "$1").sources && $(record_of "$here" "$1" "$(built "$1")") = "$(cat "$(built "$1").sources")" ]]
 }
 
 # put FROM TO: a file comes to a place at once, whole or not at all.

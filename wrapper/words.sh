@@ -1,217 +1,184 @@
-# shellcheck shell=sh disable=SC2034,SC2154 # (mpheap has the other names, and reads these)
-# Part of the wrapper mpheap, read by it: which word of a command line is wrong, and whether its FILE can be read. Nothing
-# that a program takes is refused here; what it refuses is refused with its own last line and its own status.
+# shellcheck shell=bash disable=SC2034,SC2154 # (mpheap has the other names, and reads these)
+# Part of the wrapper mpheap, read by it: which word of a command line is wrong, and whether its FILE can be read. Options and FILE stand in
+# any order, and the program is given them in the one that it takes. Nothing but a FILE that looks like an option is refused here
+# that a program takes; what it refuses is refused with its own last line and its own status.
 
-# The limits of the numbers, as crates/words/src/limits.rt and crates/workloads/src/limits.rt have them.
-most_pages=4096
-most_helpers=8
-most_mutators=16
-most_steps=100000
-most_seed=18446744073709551615
-most_bytes=16777216
-most_from=18446744073709551608
+# What was read: the command; its options, each with its value; its FILE or folder; and all words that are no option's.
+command='' file=''
+declare -A given=()
+operands=()
 
-# options_of COMMAND: its options, which all have a number, but for --record, which has a file, --places, which has a word, and --why.
-options_of() {
-    case $1 in
-        run | record | draw) echo pages ;;
-        replay) echo pages bytes places from why ;;
-        threads) echo pages helpers record ;;
-        stress) echo seed mutators steps ;;
-    esac
-}
-
-may_lack() {
-    is_in "$1" "helpers record bytes places from why" || { [ "$1" = pages ] && is_in bytes "$given"; }
-}
-
-# least_of OPTION, most_of OPTION: the range of its number.
-least_of() {
-    case $1 in seed | steps) echo 0 ;; from) echo 8 ;; bytes) echo 4096 ;; *) echo 1 ;; esac
-}
-
-# step_of OPTION: what its number is a multiple of.
-step_of() {
-    case $1 in from) echo 8 ;; bytes) echo 4096 ;; *) echo 1 ;; esac
-}
-
-most_of() {
-    eval "echo \$most_$1"
-}
-
-takes_file() {
-    case $1 in stress) false ;; *) true ;; esac
-}
-
-# reads_input COMMAND: it reads standard input where it is given no FILE.
-reads_input() {
-    case $1 in run | draw) true ;; *) false ;; esac
-}
-
-# is_in A LIST: the word is one of the list.
-is_in() {
-    case " $2 " in *" $1 "*) true ;; *) false ;; esac
-}
-
-# is_number WORD LEAST MOST: the word is a number of this range in decimal, without a sign or a leading zero.
-is_number() {
-    case $1 in
-        "" | *[!0-9]* | 0?*) false ;;
-        0) [ "$2" = 0 ] ;;
-        *) [ ${#1} -lt ${#3} ] || { [ ${#1} = ${#3} ] && printf '%s\n' "$1" "$3" | LC_ALL=C sort -c 2>/dev/null; } ;;
-    esac
-}
-
-# is_multiple NUMBER STEP: of a number that the shell may not count to, the last 15 digits tell it.
-is_multiple() {
-    case $1 in ???????????????*) set -- "1${1#"${1%???????????????}"}" "$2" ;; esac
-    [ $(($1 % $2)) = 0 ]
-}
-
-# is_below_end FROM BYTES: a heap of so many bytes from there on ends below 2^64, which is 18446744073709551616.
-is_below_end() {
-    case $1 in
-        1844674407??????????) [ $((1${1#??????????} + $2)) -lt 13709551616 ] ;;
-        *) true ;;
+# own_text: the last line of the program about bad words, if one does the command; mpheap does what is no command.
+own_text() {
+    case ${program_of[${command:-run}]} in
+        "") ;;
+        mpheap) echo "bad command" ;;
+        draw) echo "draw --pages N [--run] FILE" ;;
+        replay) echo "replay (--pages N | --bytes N) [--places any [--from ADDRESS]] [--why] FILE" ;;
+        *) form "$command" ;;
     esac
 }
 
 # Says what is wrong with the words, how they are used, and last what the program says of them.
 bad_words() {
     say "$*"
-    (usage)
-    case $command in
-        draw) echo "draw --pages N [--run] FILE" ;;
-        replay) echo "replay (--pages N | --bytes N) [--places any [--from ADDRESS]] [--why] FILE" ;;
-        record) echo "record --pages N FILE" ;;
-        *) echo "bad command" ;;
-    esac >&2
-    exit 2
+    if [[ -n $command ]]; then
+        printf "usage: mpheap %s\n'mpheap help %s' says more\n" "$(form "$command")" "$command" >&2
+    else
+        echo "'mpheap help' says how it is used" >&2
+    fi
+    own_text >&2
+    answers 2
 }
 
-# look_at_option TEXT: an option without its number, as it stands behind its two dashes.
-look_at_option() {
-    is_in "$1" "$(options_of "$command")" || bad_words "'$command' has no option '--$1'"
-    is_in "$1" "$given" && bad_words "'--$1' is given twice"
-    given="$given $1"
-    option=$1
+# is_number WORD LEAST MOST: the word is a number of this range in decimal, without a sign or a leading zero.
+is_number() {
+    [[ $1 =~ ^(0|[1-9][0-9]*)$ ]] && is_at_most "$1" "$3" && is_at_most "$2" "$1"
 }
 
-# look_at_number OPTION WORD: the number, file or word behind an option.
-look_at_number() {
-    case $1 in
-        record) ;;
-        places) is_in "$2" "classes any" || bad_words "'$2' is no word for '--places': 'classes' or 'any'" ;;
+# is_at_most NUMBER OTHER: also where the shell can't count to them.
+is_at_most() {
+    if [[ ${#1} = "${#2}" ]]; then [[ ! $1 > $2 ]]; else [[ ${#1} -lt ${#2} ]]; fi
+}
+
+# is_multiple NUMBER STEP: of a number that the shell may not count to, the last 15 digits tell it.
+is_multiple() {
+    local last=$1
+    [[ ${#last} -lt 16 ]] || last=1${last: -15}
+    ((last % $2 == 0))
+}
+
+# is_below_end FROM BYTES: a heap of so many bytes from there on ends below 2^64, which is 18446744073709551616.
+is_below_end() {
+    [[ $1 != 1844674407?????????? ]] || ((1${1#??????????} + $2 < 13709551616))
+}
+
+# look_at_value AT WORD: the word is what the row takes.
+look_at_value() {
+    local name=${row_name[$1]} least most step
+    case ${row_takes[$1]} in
+        file | folder) [[ -n $2 ]] || bad_words "'$name' lacks its ${row_value[$1]}: '' is none" ;;
+        [0-9]*)
+            read -r least most step <<<"${row_takes[$1]}"
+            is_number "$2" "$least" "$most" || bad_words "'$2' is no number for '$name': $(range_of "$1")"
+            is_multiple "$2" "$step" || bad_words "'$2' is no number for '$name': it is no multiple of $step"
+            ;;
         *)
-            is_number "$2" "$(least_of "$1")" "$(most_of "$1")" ||
-                bad_words "'$2' is no number for '--$1': $(least_of "$1") to $(most_of "$1"), in decimal"
-            is_multiple "$2" "$(step_of "$1")" || bad_words "'$2' is no number for '--$1': it is no multiple of $(step_of "$1")"
+            is_in "$2" "${row_takes[$1]}" ||
+                bad_words "'$2' is no word for '$name', only $(range_of "$1")$(nearest "$2" "${row_takes[$1]}")"
             ;;
     esac
-    case $1 in pages | bytes | places | from | steps) eval "said_$1=\$2" ;; esac
-    option=
 }
 
-# look_at_both TEXT: an option and its number in one word.
-look_at_both() {
-    look_at_option "${1%%=*}"
-    look_at_number "$option" "${1#*=}"
+# look_at_option WORD: the row of an option, which is given once.
+look_at_option() {
+    at=$(row_of "$command" "$1") || bad_words "'$command' has no option '$1'$(nearest "$1" "$(options_of "$command")")"
+    [[ ! -v given[$1] ]] || bad_words "'$1' is given twice"
+    given[$1]=
 }
 
-# look_at_place AT WORD: a word that is no option's, so it has to be FILE.
-look_at_place() {
-    takes_file "$command" || bad_words "'$command' takes no word '$2'"
-    [ "$file_at" = 0 ] || bad_words "'$2' is a second FILE, behind '$file'"
-    file_at=$1
-    file=$2
+# lacks AT: an option stands where nothing follows that could be its value.
+lacks() {
+    case ${row_takes[$1]} in
+        file) bad_words "'${row_name[$1]}' lacks its file" ;;
+        [0-9]*) bad_words "'${row_name[$1]}' lacks its number" ;;
+        *) bad_words "'${row_name[$1]}' lacks a word: $(range_of "$1")" ;;
+    esac
 }
 
-# has_one_order COMMAND: its words are --pages, a number and FILE, whatever FILE looks like.
-has_one_order() {
-    case $1 in record | draw) true ;; *) false ;; esac
+# look_at_operand WORD: a word that is no option's.
+look_at_operand() {
+    local at
+    at=$(operand_of "$command") || bad_words "'$command' takes no word '$1'"
+    [[ ${#operands[@]} = 0 || ${row_form[at]} = *..* ]] || bad_words "'$1' is a second ${row_name[at]}, behind '${operands[0]}'"
+    look_at_value "$at" "$1"
+    operands+=("$1")
 }
 
-# has_flag WORDS..: they are those of `draw --pages N --run FILE`.
-has_flag() {
-    [ $# = 5 ] && [ "$1 $4" = "draw --run" ]
-}
-
-look_at_order() {
-    has_one_order "$1" || return 0
-    [ "${2-}" = --pages ] || bad_words "'--pages' has to be the first word behind '$1'"
-    [ $# = 4 ] || { [ $# = 3 ] && reads_input "$1"; } || has_flag "$@" || bad_words "'$1' takes a number of pages and one FILE"
-}
-
-# look_at_replay WORDS..: options in any order, and then FILE, the last word whatever it looks like.
-look_at_replay() {
-    [ $# = 1 ] || file_at=$#
-    while [ $# -gt 2 ]; do
-        shift
-        if [ -n "$option" ]; then
-            look_at_number "$option" "$1"
+# read_words COMMAND WORD..: looks at all words of a command line.
+read_words() {
+    local word at='' are_options=yes is_value=''
+    is_in "$1" "${commands[*]}" || bad_words "'$1' is no command$(nearest "$1" "${commands[*]} $(options_of top)")"
+    command=$1
+    shift
+    for word in "$@"; do
+        if [[ -n $is_value ]]; then
+            ! row_of "$command" "${word%%=*}" >/dev/null || [[ $word != --* ]] || lacks "$at"
+            look_at_value "$at" "$word"
+            given[${row_name[at]}]=$word is_value=''
+        elif [[ $are_options = no ]]; then
+            look_at_operand "$word"
         else
-            case $1 in
-                --?*) look_at_option "${1#--}" ;;
-                *) bad_words "'$1' is no option of '$command', and FILE has to be its last word" ;;
+            case $word in
+                --) are_options=no ;;
+                --*=*)
+                    look_at_option "${word%%=*}"
+                    ! is_flag "$at" || bad_words "'${word%%=*}' takes no value"
+                    look_at_value "$at" "${word#*=}"
+                    given[${word%%=*}]=${word#*=}
+                    ;;
+                -h | --help) given[--help]= && return ;;
+                -?*) look_at_option "$word" && { is_flag "$at" || is_value=yes; } ;;
+                *) look_at_operand "$word" ;;
             esac
-            [ "$option" != why ] || option=
         fi
     done
-    eval "file=\${$#}"
+    [[ ! -v given[--help] && ! -v given[--version] ]] || return 0
+    [[ -z $is_value ]] || lacks "$at"
+    look_for_missing
+}
+
+# Says which word the command lacks, if it lacks one, and which ones don't go together.
+look_for_missing() {
+    local at name
+    for at in ${rows_of[$command]}; do
+        name=${row_name[at]}
+        if is_option "$at" && ! may_lack "$at" && [[ ! -v given[$name] ]]; then bad_words "'$command' lacks '$name'"; fi
+    done
+    if [[ $command = replay ]]; then look_at_range; fi
+    if [[ -v given[--run] ]]; then
+        [[ ${#operands[@]} = 0 ]] || bad_words "'${operands[0]}' is a second FILE, behind '${given[--run]}'"
+        operands=("${given[--run]}")
+    fi
+    file=${operands[0]-}
+    at=$(operand_of "$command") || return 0
+    [[ ${#operands[@]} != 0 ]] || may_lack "$at" || bad_words "'$command' lacks its ${row_name[at]}"
 }
 
 # Says what is wrong with the range of a run's heap.
 look_at_range() {
-    [ -z "$said_pages" ] || [ -z "$said_bytes" ] || bad_words "'--pages' and '--bytes' say the same of a heap"
-    [ "$said_places" = any ] || [ -z "$said_from" ] || bad_words "'--from' is for '--places any' alone"
-    [ "$said_places" = any ] || [ -z "$said_bytes" ] || bad_words "'--bytes' is for '--places any' alone"
-    is_below_end "$said_from" "${said_bytes:-$((4096 * said_pages))}" || bad_words "a heap from '$said_from' on has its end past 2^64 - 1"
-}
-
-# Looks at all words of a command line. What is left in file_at is the place of FILE among them, 0 if there is none.
-look_at_words() {
-    command=$1 file_at=0 file='' at=0 option='' given='' are_options=yes said_pages='' said_bytes='' said_places='' said_from='' said_steps=''
-    is_in "$command" "run threads stress replay record draw" || bad_words "'$1' is no command"
-    if [ "$command" = replay ]; then
-        look_at_replay "$@"
-        look_for_missing
-        look_at_range
-        return
+    local pages=${given[--pages]-} bytes=${given[--bytes]-} from=${given[--from]-}
+    [[ -n $pages$bytes || (${given[--places]-} = any && -z $from) ]] || bad_words "'replay' lacks '--pages'"
+    [[ -z $pages || -z $bytes ]] || bad_words "'--pages' and '--bytes' say the same of a heap"
+    if [[ ${given[--places]-} != any ]]; then
+        [[ -z $from ]] || bad_words "'--from' is for '--places any' alone"
+        [[ -z $bytes ]] || bad_words "'--bytes' is for '--places any' alone"
     fi
-    look_at_order "$@"
-    for word in "$@"; do
-        at=$((at + 1))
-        if [ $at = 1 ] || { [ $at = 4 ] && has_flag "$@"; }; then
-            continue
-        elif [ -n "$option" ]; then
-            look_at_number "$option" "$word"
-        elif [ $are_options = no ] || { [ $at -ge 4 ] && has_one_order "$command"; }; then
-            look_at_place $at "$word"
-        else
-            case $word in
-                --) are_options=no ;;
-                --*=*) look_at_both "${word#--}" ;;
-                --*) look_at_option "${word#--}" ;;
-                -?*) bad_words "'$command' has no option '$word'" ;;
-                *) look_at_place $at "$word" ;;
-            esac
-        fi
-    done
-    look_for_missing
+    is_below_end "$from" "${bytes:-$((4096 * ${pages:-0}))}" || bad_words "a heap from '$from' on has its end past 2^64 - 1"
 }
 
-# Says which word the command lacks, if it lacks one.
-look_for_missing() {
-    case $option in
-        "") ;;
-        record) bad_words "'--record' lacks its file" ;;
-        places) bad_words "'--places' lacks 'classes' or 'any'" ;;
-        *) bad_words "'--$option' lacks its number" ;;
-    esac
-    for option in $(options_of "$command"); do
-        is_in "$option" "$given" || may_lack "$option" || bad_words "'$command' lacks '--$option'"
+# program_words: puts the words for the program into `words`, FILE last, which has a name there that looks like no option.
+program_words() {
+    local at name path
+    words=()
+    if [[ ${program_of[$command]} = mpheap ]]; then words=("$command"); fi
+    for at in ${rows_of[$command]}; do
+        name=${row_name[at]}
+        [[ -v given[$name] ]] || continue
+        words+=("$name")
+        path=${given[$name]}
+        if [[ ${row_takes[at]} = file ]]; then path=$(as_path "$path"); fi
+        if [[ $name != --run ]] && ! is_flag "$at"; then words+=("$path"); fi
     done
-    [ "$file_at" != 0 ] || ! takes_file "$command" || reads_input "$command" || bad_words "'$command' lacks its FILE"
+    if [[ -n $file ]]; then words+=("$(as_path "$file")"); fi
+    if [[ $program = draw && -z $file ]]; then words+=(/dev/stdin); fi
+}
+
+as_path() {
+    case $1 in
+        -*) echo "./$1" ;;
+        *) echo "$1" ;;
+    esac
 }
 
 # Says which file can't be read and why, and last what the program says of it.
@@ -222,11 +189,11 @@ bad_file() {
 }
 
 look_at_file() {
-    if [ ! -e "$1" ]; then
+    if [[ ! -e $1 ]]; then
         bad_file "there is no file '$1'"
-    elif [ -d "$1" ]; then
+    elif [[ -d $1 ]]; then
         bad_file "'$1' is a folder"
-    elif [ ! -r "$1" ]; then
+    elif [[ ! -r $1 ]]; then
         bad_file "'$1' may not be read"
     fi
 }

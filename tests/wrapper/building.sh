@@ -15,10 +15,10 @@ build_shows_its_way() {
         "$(test -f "$tree/crates/mpheap_c/out/libmpheap.a" && echo yes) $(test -f "$tree/out/libmpgc.so" && echo yes)"
     has "a build: how long, beforehand" "minutes" "$(head -n 1 "$room/err")"
     is "a build: rt's one call" "tree ci" "$(calls)"
-    is "a build: a line for each crate" "$(sed -n 's/.* of \([0-9]*\), .*: proved, after .*/\1/p' "$room/err" | sort -u)" \
-        "$(grep -c ' of .*, .*: proved, after [0-9]* s$' "$room/err")"
-    lacks "a build: no crate that isn't below" "elsewhere" "$err"
-    is "a build: what was made, at the end" "mpheap: made: mpheap replay record draw c gc" "$(tail -n 1 "$room/err")"
+    is "a build: what was made, at the end, and no progress where there is no terminal" "mpheap: made: mpheap replay record draw c gc" \
+        "$(tail -n +2 "$room/err")"
+    has "a build: how long each crate took is kept" "words " "$(cat "$tree/out/took")"
+    lacks "a build: no crate that isn't below" "elsewhere " "$(cat "$tree/out/took")"
     call build
     is "a second build: nothing is proved" "0 " "$status $(calls)"
     is "a second build: the same output" "$(made_by_build)" "$out"
@@ -29,10 +29,10 @@ parts_are_built_alone() {
     rm -rf "$tree"/crates/*/out "$tree/out"
     call build replay
     is "build replay: status and what is made" "0 mpheap: the proved build is $tree/crates/replay/out/replay" "$status $out"
-    lacks "build replay: not what only others need" "workloads" "$err"
-    call build c
-    is "build c: status" 0 "$status"
-    lacks "build c: no program" "scripts" "$err"
+    lacks "build replay: not what only others need" "workloads " "$(cat "$tree/out/took")"
+    call build c --quiet
+    is "build c: status, and --quiet" "0 " "$status $err"
+    lacks "build c: no program" "command_line " "$(cat "$tree/out/took")"
     is "build c: no libmpgc" no "$(test -e "$tree/out/libmpgc.so" && echo yes || echo no)"
     call build gc
     is "build gc: over what is proved" "0 " "$status $(calls)"
@@ -73,8 +73,9 @@ proved_is_said_where_it_is_true() {
     is "another program's words" "replay|$PWD|--pages 4 first.script" "$(cat "$room/seen/program")"
     echo "0 get 1" | "$wrapper" draw --pages 4 >"$room/out" 2>"$room/err"
     is "draw: a script from standard input" "0 get 1" "$(input)"
-    refused 2 "bad command" "'run' lacks '--pages'" run
-    refused 1 "read fault" "there is no file 'missing'" run --pages 4 missing
+    no_file "there is no file 'missing'" run --pages 4 missing
+    call --quiet run --pages 4 first.script
+    is "--quiet: the program's errors alone" complained "$err"
     touch "$tree/crates/words/src/lib.rt" "$tree/crates.txt"
     runs_proved "times that changed"
     echo "// more" >>"$tree/crates/elsewhere/src/lib.rt"
@@ -110,8 +111,9 @@ proved_is_said_where_it_is_true() {
 the_heap_for_c_is_copied() {
     call install "$room/prefix"
     is "install: status" 0 "$status"
-    for file in include/mpheap.h lib/libmpheap.a lib/pkgconfig/mpheap.pc lib/cmake/mpheap/mpheap-config.cmake \
-        include/mpgc/gc.h include/mpgc/gc/gc.h lib/libmpgc.so lib/libmpgc.a lib/pkgconfig/mpgc.pc; do
+    for file in include/mpheap.h include/mpheap_record.h lib/libmpheap.a lib/pkgconfig/mpheap.pc lib/cmake/mpheap/mpheap-config.cmake \
+        include/mpgc/gc.h include/mpgc/gc/gc.h lib/libmpgc.so lib/libmpgc.a lib/pkgconfig/mpgc.pc \
+        share/bash-completion/completions/mpheap share/man/man1/mpheap.1 share/man/man3/libmpgc.3; do
         is "install: $file" yes "$(test -f "$room/prefix/$file" && echo yes || echo no)"
     done
     has "install: how C is compiled" "$room/prefix/lib/pkgconfig" "$out"
@@ -128,7 +130,7 @@ failed_builds_prove_nothing() {
     echo tracing >"$room/says/refused"
     call build run replay record draw
     is "a refused crate: status" 3 "$status"
-    has "a refused crate: which" "tracing: not proved" "$err"
+    has "a refused crate: which" "tracing is refused by rt" "$err"
     has "a refused crate: why" "a goal is open" "$err"
     lacks "a refused crate: no more than why" "first: proved" "$err"
     has "a refused crate: where, and how again" "its folder is $tree/crates/tracing; again by 'cd $tree/crates/tracing && rt check'" "$err"
@@ -136,10 +138,6 @@ failed_builds_prove_nothing() {
     has "a refused crate: what was made" "mpheap: made: run replay record"$'\n' "$err"
     is "a refused crate: what wasn't" "mpheap: not made: draw" "$(tail -n 1 "$room/err")"
     rm "$room/says/refused"
-    printf '%s\n' words pages mpheap >"$room/says/kept"
-    call build draw run
-    has "what was proved before is said" "words: proved before, of the same sources" "$err"
-    rm "$room/says/kept"
     echo "rt: cannot read crates.txt" >"$room/says/stops"
     rm -rf "$tree"/crates/*/out
     call build replay
@@ -185,6 +183,31 @@ a_stopped_build_leaves_nothing() {
     rm "$room/says/waits"
     call build
     is "behind a stopped build: status" 0 "$status"
+}
+
+# On a terminal long work has a line that says how far it is, and how much is left by what earlier builds took.
+long_work_shows_progress() {
+    rm -rf "$tree"/crates/*/out
+    sed -i 's/ [0-9]*$/ 120/' "$tree/out/took"
+    printf '%s\n' words >"$room/says/kept"
+    script -qec "'$wrapper' build replay" /dev/null </dev/null >"$room/out" 2>&1
+    local crates
+    crates=$(sed -n 's/.*proves \([0-9]*\) crates and builds replay.*/\1/p' "$room/out")
+    has "a terminal: how far a build is, of how many crates, and what is left" \
+        "mpheap: 1 of $crates, words, about $((2 * crates - 2)) min left by what earlier builds took" "$(cat "$room/out")"
+    rm -rf "$tree"/crates/*/out
+    script -qec "'$wrapper' build replay --quiet" /dev/null </dev/null >"$room/out" 2>&1
+    lacks "a terminal and --quiet: no progress" " of " "$(cat "$room/out")"
+    rm "$room/says/kept"
+    rm -f "$room/says/elsewhere"
+    rm -rf "$tree"/crates/*/out
+    echo "unproved-mpheap 43" >>"$tree/out/took"
+    printf '#!/bin/sh\nsleep 2.5\n' >"$room/says/first"
+    chmod +x "$room/says/first"
+    script -qec "'$wrapper' run --pages 4 first.script" /dev/null </dev/null >"$room/out" 2>&1
+    has "a terminal: how far an unproved build is" "mpheap: makes an unproved build of mpheap: 1 s, of about 43" "$(cat "$room/out")"
+    rm "$room/says/first"
+    call build
 }
 
 found_from_everywhere() {

@@ -21,29 +21,11 @@ the_other_way_is_found() {
     done
 }
 
-# What rt's own run of an unproved program can't do is said before it builds.
+# What rt's own run of an unproved program can't do is said before it builds, where that is known.
 limits_are_told_first() {
-    try_ends 0 $'mutator 0\n'
-    told_first "a history that is to be written" "can't write a file: 'mpheap build threads' makes" threads --pages 4 --record run first.script
-    yes "0 get 1" | head -n 530000 >long.script
-    told_first "too many replies" "'mpheap build run' makes" run --pages 4 long.script
-    head -n 160000 long.script >some.script
-    told_first "too many lines" "60 seconds, and there are 160000: 'mpheap build run' makes" run --pages 4 some.script
-    head -n 5300 long.script >some.script
-    told_first "a trace that is too long" "this one about 1060000: 'mpheap build draw' makes" draw --pages 4 some.script
-    head -n 100000 long.script >some.script
-    told_first "a recorded run that is too long" "'mpheap build record' makes" record --pages 4 some.script
-    told_first "a random script that is too long" "'mpheap build stress' makes" stress --seed 1 --mutators 1 --steps 100000
-    call run --pages 4 <some.script
-    is "fewer lines are run" "mpheap try -- run --pages 4" "$(calls)"
-    rm long.script some.script
-}
-
-# told_first WHAT WHY WORDS..
-told_first() {
-    call "${@:3}"
-    is "$1: status, rt's calls" "3 " "$status $(calls)"
-    has "$1: why" "$2" "$err"
+    call threads --pages 4 --record run first.script
+    is "a history that is to be written: status, rt's calls" "3 " "$status $(calls)"
+    has "a history that is to be written: why" "can't write a file: 'mpheap build threads' makes" "$err"
 }
 
 words_stay_as_they_are() {
@@ -56,16 +38,6 @@ words_stay_as_they_are() {
     is "the status" 0 "$status"
     has "an unproved build says so" "an unproved build" "$err"
     lacks "rt's own lines are left out" "run=ended" "$err"
-    call run --pages=4 first.script
-    is "an option with its value" "$(lines run --pages=4 /dev/stdin)" "$(words)"
-    call run first.script --pages 4
-    is "FILE first" "$(lines run /dev/stdin --pages 4)" "$(words)"
-    call run --pages 4 -- first.script
-    is "FILE behind --" "$(lines run --pages 4 -- /dev/stdin)" "$(words)"
-    is "FILE behind --: its text" attach "$(input)"
-    call threads --helpers 4 --pages 4 first.script
-    is "a workload's FILE behind two options" "$(lines threads --helpers 4 --pages 4 /dev/stdin)" "$(words)"
-    is "a workload's text" attach "$(input)"
     call stress --seed 1 --mutators 2 --steps 4
     is "a random script has no FILE" "$(lines stress --seed 1 --mutators 2 --steps 4)" "$(words)"
     call stress --seed 18446744073709551615 --mutators 16 --steps 80000
@@ -84,10 +56,6 @@ each_program_is_called_by_its_name() {
         is "$program: its crate and words" "$program try -- --pages 4 /dev/stdin" "$(calls)"
         is "$program: its text" attach "$(input)"
         is "$program: what it prints" legal "$out"
-        cp first.script ./--first
-        call "$program" --pages 4 --first
-        is "$program: a FILE that looks like an option" attach "$(input)"
-        rm ./--first
     done
 }
 
@@ -121,10 +89,7 @@ a_drawn_run_is_a_page() {
     try_ends 2 "" "no lines"
     call draw --pages 4 --run first.script
     is "draw --run: no run, no page" "2 " "$status $out"
-    refused 2 "draw --pages N [--run] FILE" "'draw' takes a number of pages and one FILE" draw --pages 4 a b
-    refused 2 "draw --pages N [--run] FILE" "'draw' takes a number of pages and one FILE" draw --pages 4 --runs a
-    refused 2 "record --pages N FILE" "'record' takes a number of pages and one FILE" record --pages 4 --run a
-    refused 1 "read fault" "there is no file 'not.there'" draw --pages 4 --run not.there
+    no_file "there is no file 'not.there'" draw --pages 4 --run not.there
 }
 
 file_is_the_callers() {
@@ -132,9 +97,9 @@ file_is_the_callers() {
     call run --pages 4 args
     is "a name that stands in the crate too" "0 get 1" "$(input)"
     rm args
-    refused 1 "read fault" "there is no file 'args'" run --pages 4 args
-    refused 1 "read fault" "there is no file 'args'" replay --pages 4 args
-    refused 1 "read fault" "'$room' is a folder" run --pages 4 "$room"
+    no_file "there is no file 'args'" run --pages 4 args
+    no_file "there is no file 'args'" replay --pages 4 --why args
+    no_file "'$room' is a folder" run --pages 4 "$room"
     mkdir "with space"
     echo attach >"with space/a b"
     call run --pages 4 "with space/a b"
@@ -194,6 +159,39 @@ a_signal_ends_a_run() {
     ends_at_once "a signal while the script is read" $!
     kill "$writer"
     rm "$room/slow"
+}
+
+# A shell that runs the wrapper in the background ignores Ctrl-C for it, and rt would end by that: the run goes on to its answer.
+an_ignored_signal_ends_nothing() {
+    cat >"$room/says/first" <<'FIRST'
+#!/usr/bin/env python3
+import os, signal, sys, time
+signal.signal(signal.SIGINT, lambda *_: os.kill(os.getppid(), signal.SIGKILL))
+with open(os.environ["ROOM"] + "/seen/waiting", "w") as file:
+    print("waits", file=file)
+time.sleep(1.5)
+FIRST
+    chmod +x "$room/says/first"
+    try_ends 0 $'mutator 0\n'
+    rm -f "$room"/seen/*
+    # shellcheck disable=SC2016 # (the inner shell expands it)
+    setsid bash -c 'trap "" INT; "$1" run --pages 4 first.script; echo "status $?"' - "$wrapper" >"$room/out" 2>"$room/err" &
+    local group=$!
+    until_true test -s "$room/seen/waiting"
+    kill -INT -- "-$group"
+    wait "$group"
+    rm "$room/says/first"
+    is "Ctrl-C that the caller ignores: the run gives its answer" "$(lines "mutator 0" "status 0")" "$(cat "$room/out")"
+    # shellcheck disable=SC2016 # (the stand-in expands it)
+    printf '#!/bin/sh\nkill -9 $PPID\n' >"$room/says/first"
+    chmod +x "$room/says/first"
+    rm -rf "$tree/crates/mpheap/out"
+    call run --pages 4 first.script
+    rm "$room/says/first"
+    is "rt that ends without a word: status" 3 "$status"
+    has "rt that ends without a word: that is said" "rt made no unproved build, ended with status 137 and said nothing" "$err"
+    mkdir -p "$tree/crates/mpheap/out/unproved"
+    cp "$room/says/version" "$tree/crates/mpheap/out/unproved/mpheap.once"
 }
 
 answers_are_handed_on() {

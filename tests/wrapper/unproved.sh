@@ -61,7 +61,26 @@ a_kept_build_is_called_as_it_is() {
     call draw --pages 4 first.script
     is "draw: the kept build, with its status" "2 " "$status $(calls)"
     is "draw: its words" "$(lines --pages 4 first.script)" "$(words)"
+    try_ends 0 $'legal\n'
+    cp first.script ./--why
+    call replay --pages 4 -- --why
+    is "a FILE that looks like an option: the program's words" "$(lines --pages 4 ./--why)" "$(words)"
+    rm ./--why
     try_ends 0 $'mutator 0\n'
+    rm -f "$room"/seen/*
+    a_signal_ends_a_kept_build
+}
+
+# A program takes the place of the wrapper, and a signal ends it.
+a_signal_ends_a_kept_build() {
+    mkfifo "$room/slow"
+    sleep 60 >"$room/slow" &
+    local writer=$!
+    "$wrapper" run --pages 4 <"$room/slow" >"$room/out" 2>"$room/err" &
+    until_true test -s "$room/seen/folder"
+    ends_at_once "a signal while a kept build runs" $!
+    kill "$writer"
+    rm "$room/slow"
 }
 
 # A build that fails, or is stopped, keeps nothing and leaves nothing.
@@ -91,7 +110,7 @@ builds_that_fail_keep_nothing() {
 
 nothing_goes_without_rt() {
     mkdir -p "$room/plain"
-    for tool in sh dirname readlink cat printf awk sed find sort xargs sha256sum mkdir mktemp rm tail wc cp mv mkfifo ls kill sleep tr basename; do
+    for tool in bash sh dirname readlink cat awk sed find sort xargs sha256sum mkdir mktemp rm tail wc cp mv mkfifo ls sleep tr basename; do
         ln -sf "$(PATH=$real_path type -P "$tool")" "$room/plain/$tool"
     done
     status=0
