@@ -25,7 +25,7 @@ void mpgc_end_collection(bool is_full, double start)
     mpgc_count_collection(is_full, start);
 }
 
-// Roots that don't fit the stacks are marked meanwhile. The words that are read are counted, to pace by.
+// Roots that don't fit the stack are marked meanwhile. The words that are read are counted, to pace by.
 static void end_with_roots(void)
 {
     uint64_t count, read = 0;
@@ -100,7 +100,7 @@ bool mpgc_collect(GC_stop_func stop)
 }
 
 // What the last collection left to do is done, in part. Answers whether there was some.
-static bool tidy(void)
+bool mpgc_tidy(void)
 {
     enum { SWEPT = 4 };
     bool has_opened = mpgc_open_some(), has_swept = mpgc_sweep_some(SWEPT);
@@ -113,7 +113,11 @@ bool mpgc_look(void *asked)
     enum { WORDS = 1024 };
     switch (mpgc_due(asked != NULL)) {
     case NOTHING: break;
-    case TIDYING: mpgc_tidied(tidy()); break;
+    case TIDYING: mpgc_tidied(mpgc_tidy()); break;
+    case WAKE:
+        if (mpgc_wake_collector(true)) break;
+        mpgc_go_on(WORDS);
+        break;
     case STEP: mpgc_go_on(WORDS); break;
     case COLLECTION: (void)collect_unless(mpgc_stop_func()); break;
     }

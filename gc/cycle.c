@@ -10,6 +10,8 @@
 //   mpheap_retrace, mpheap_finish .."              freed (spare.c): each before the program runs on
 //   the roots are as the program has them          at mpheap_finish: they are read just before, with nothing between. At mpheap_roots
 //                                                  they needn't be.
+//   "while the call runs, no word .. is written    mpheap_mark_beside and mpheap_retrace_beside are called where the collector has a thread
+//   but on pages that were dirty when it began"    of its own: argued at the head of protection.c
 #include "layer.h"
 
 static void begin(void)
@@ -37,22 +39,45 @@ static void end(void)
     mpgc_end_collection(false, start);
 }
 
+// A piece that reads words of the program, or cleans pages, is done while no other thread runs, but for those that have calls for it, where
+// the collector has a thread of its own. Pages to which the kernel may be writing aren't read again beside it.
+static bool needs_stop(enum piece piece)
+{
+    bool goes_beside = piece == MARK || (piece == REREAD && !mpgc_is_pinned());
+    return piece >= BEGIN && !(goes_beside && mpgc_is_beside());
+}
+
+static const mpheap_asked asked = MPHEAP_ASKED;
+
 static uint64_t mark(uint64_t words)
 {
     uint64_t read = 0;
-    GRANTED(mpheap_mark(&mpgc.heap, words, &read));
+    if (mpgc_world_is_stopped())
+        GRANTED(mpheap_mark(&mpgc.heap, words, &read));
+    else
+        GRANTED(mpheap_mark_beside(&mpgc.heap, words, &asked, &read));
     mpgc_figures.marked += read;
     return read;
 }
 
-// The lowest open pages are closed, and as many dirty ones read again; or some, where none is open. Answers how many were read.
+// Whether there was a dirty page.
+static uint64_t reread_one(void)
+{
+    uint64_t count;
+    if (mpgc_world_is_stopped())
+        GRANTED(mpheap_retrace(&mpgc.heap, &count));
+    else
+        GRANTED(mpheap_retrace_beside(&mpgc.heap, &asked, &count));
+    return count;
+}
+
+// The lowest open pages are closed, and as many dirty ones read again; or some, where none is open: all before the lock is given back.
+// Answers how many were read.
 static uint64_t reread(void)
 {
-    uint64_t count, read = 0;
-    for (size_t pages = mpgc_close_lowest(); pages > 0; pages--) {
-        GRANTED(mpheap_retrace(&mpgc.heap, &count));
-        read += count;
-    }
+    enum { STOPPED = 16, BESIDE = 8 };
+    uint64_t read = 0;
+    for (size_t pages = mpgc_close_lowest(mpgc_world_is_stopped() ? STOPPED : BESIDE); pages > 0; pages--) read += reread_one();
     mpgc_tell_pinned();
     mpgc_figures.retraces += read;
     return read;
@@ -82,8 +107,8 @@ static uint64_t do_piece(enum piece piece, uint64_t words)
     return 0;
 }
 
-// The next step of the cycle, of about so many words where it marks. At rest one begins. From its first piece on that reads words of the
-// program, or cleans pages, no other thread runs.
+// The next step of the cycle, of about so many words where it marks. At rest one begins. From its first piece on that needs a stop no other
+// thread runs. Before one that needs none is told what a handler opened in the middle of another telling.
 void mpgc_go_on(uint64_t words)
 {
     sigset_t old;
@@ -91,10 +116,11 @@ void mpgc_go_on(uint64_t words)
     mpgc_block_signals(&old);
     enum piece piece = mpgc_first_piece();
     while (piece != NO_PIECE) {
-        if (piece >= BEGIN && !has_stopped) {
+        if (!has_stopped && needs_stop(piece)) {
             mpgc_stop_world();
             has_stopped = true;
         }
+        if (!has_stopped) mpgc_tell_noted();
         piece = mpgc_piece_after(piece, do_piece(piece, words), &words);
     }
     if (has_stopped) mpgc_start_world();

@@ -9,10 +9,10 @@
 #include <stdlib.h>
 #include <string.h>
 
+// Its number hides its base.
 struct described {
-    struct described *next, *next_to_read;
-    struct described *older, *newer;
-    GC_hidden_pointer hidden;
+    struct entry entry;
+    struct described *next_to_read, *older, *newer;
     GC_word descriptor;
     size_t step;   // bytes to which the descriptor applies, again and again
     size_t bytes;  // of all of these
@@ -20,88 +20,53 @@ struct described {
     bool is_read;
 };
 
-static struct described **chains, *to_read, *to_free;
-static struct described *newest, *oldest;
-static size_t count, room;
+static struct table all;
+static struct described *newest, *oldest, *to_read;
+static struct entry *to_free;
 static void *procs[MPGC_PROCS];
 
 // ---- The table ----
 
-static struct described **place_of(uintptr_t base)
-{
-    static struct described *none;
-    struct described **at = room == 0 ? &none : &chains[mpgc_hash(base, room)];
-    while (*at && ~(*at)->hidden != base) at = &(*at)->next;
-    return at;
-}
+static struct described *at_base(uintptr_t base) { return (struct described *)*mpgc_place(&all, ~base); }
 
-static void grow(void)
-{
-    struct described **old = chains;
-    size_t old_room = room;
-    room = room ? 2 * room : 64;
-    chains = calloc(room, sizeof *chains);
-    if (!chains) mpgc_stop("no memory for a described object");
-    for (size_t k = 0; k < old_room; k++) {
-        for (struct described *one = old[k], *next; one; one = next) {
-            next = one->next;
-            one->next = NULL;
-            *place_of(~one->hidden) = one;
-        }
-    }
-    free(old);
-}
-
-// It is freed later, since another thread may have the lock of malloc now.
-static void forget(struct described **at)
-{
-    struct described *one = *at;
-    *at = one->next;
-    *(one->newer ? &one->newer->older : &newest) = one->older;
-    *(one->older ? &one->older->newer : &oldest) = one->newer;
-    one->next = to_free;
-    to_free = one;
-    count--;
-}
+static uintptr_t base_of(const struct described *one) { return ~one->entry.number; }
 
 void mpgc_forget_described(uintptr_t base)
 {
-    struct described **at = place_of(base);
-    if (*at) forget(at);
+    struct entry **at = mpgc_place(&all, ~base);
+    struct described *one = (struct described *)*at;
+    if (!one) return;
+    *(one->newer ? &one->newer->older : &newest) = one->older;
+    *(one->older ? &one->older->newer : &oldest) = one->newer;
+    mpgc_push(&to_free, mpgc_take(&all, at));
 }
 
-size_t mpgc_count_described(void) { return count; }
+size_t mpgc_count_described(void) { return all.count; }
 
 int mpgc_described_kind(uintptr_t base)
 {
     mpgc_lock();
-    const struct described *one = *place_of(base);
+    const struct described *one = at_base(base);
     mpgc_unlock();
     return one ? one->kind : -1;
 }
 
 static void write_down(const struct described *object)
 {
-    for (struct described *one; (one = to_free);) {
-        to_free = one->next;
-        free(one);
-    }
-    if (count == room) grow();
-    struct described *made = malloc(sizeof *made), **at = place_of(~object->hidden);
+    mpgc_free_all(&to_free);
+    struct described *made = malloc(sizeof *made);
     if (!made) mpgc_stop("no memory for a described object");
     *made = *object;
-    made->next = *at;
-    *at = made;
+    mpgc_put(&all, &made->entry);
     made->older = newest;
     *(newest ? &newest->newer : &oldest) = made;
     newest = made;
-    count++;
 }
 
 void mpgc_describe(void *object, size_t step, size_t bytes, GC_word descriptor, int kind)
 {
     mpgc_lock();
-    write_down(&(struct described){ .hidden = GC_HIDE_POINTER(object), .descriptor = descriptor, .step = step, .bytes = bytes, .kind = kind });
+    write_down(&(struct described){ { NULL, GC_HIDE_POINTER(object) }, .descriptor = descriptor, .step = step, .bytes = bytes, .kind = kind });
     mpgc_unlock();
 }
 
@@ -116,7 +81,7 @@ void mpgc_set_proc(unsigned number, void *marks)
 static void push(uintptr_t word)
 {
     mpgc_mark_from(word);
-    struct described *one = *place_of(word);
+    struct described *one = at_base(word);
     if (!one || one->is_read) return;
     one->is_read = true;
     one->next_to_read = to_read;
@@ -182,14 +147,14 @@ static void push_by(GC_word *words, GC_word descriptor)
 
 static void read_one(const struct described *one)
 {
-    for (size_t at = 0; at + one->step <= one->bytes; at += one->step) push_by((GC_word *)(~one->hidden + at), one->descriptor);
+    for (size_t at = 0; at + one->step <= one->bytes; at += one->step) push_by((GC_word *)(base_of(one) + at), one->descriptor);
 }
 
 // It is read, if it is marked and wasn't yet, with those that it leads to without others between. Answers whether it was.
 static bool read_from(struct described *one)
 {
-    if (one->is_read || !mpgc_is_marked(~one->hidden)) return false;
-    push(~one->hidden);
+    if (one->is_read || !mpgc_is_marked(base_of(one))) return false;
+    push(base_of(one));
     for (; (one = to_read);) {
         to_read = one->next_to_read;
         read_one(one);
@@ -222,14 +187,14 @@ void mpgc_drop_described(void)
 {
     for (struct described *one = newest, *older; one; one = older) {
         older = one->older;
-        if (!mpgc_is_marked(~one->hidden)) forget(place_of(~one->hidden));
+        if (!mpgc_is_marked(base_of(one))) mpgc_forget_described(base_of(one));
     }
 }
 
 // All that the object points to is a root, but it itself only if it may be.
 void mpgc_mark_from_words(uintptr_t base, size_t words, bool with_itself)
 {
-    const struct described *one = *place_of(base);
+    const struct described *one = at_base(base);
     if (one) read_one(one);
     if (mpgc_kind_at(base) != ORDINARY) return;
     for (const uint64_t *word = (const uint64_t *)base, *end = word + words; word < end; word++)

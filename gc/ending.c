@@ -19,7 +19,7 @@ bool mpgc_is_marked(uintptr_t base)
     return answer;
 }
 
-// All that the stacks hold and dirty pages have is marked, with all that it leads to.
+// All that the stack holds and dirty pages have is marked, with all that it leads to.
 void mpgc_mark_words(void)
 {
     uint64_t read, was_dirty = 1;
@@ -31,16 +31,16 @@ void mpgc_mark_words(void)
     }
 }
 
-// The same, with what the words of described objects lead to. Then the stacks are empty.
+// The same, with what the words of described objects lead to. Then the stack is empty.
 void mpgc_mark_all(void)
 {
     if (!is_ending) return;
     mpgc_mark_words();
     for (bool newest_first = true; mpgc_read_described(newest_first); newest_first = !newest_first) { }
-    mpgc_empty_stacks();
+    mpgc_empty_stack();
 }
 
-// The roots are on the stacks, or marked.
+// The roots are on the stack, or marked.
 void mpgc_end_marks(void)
 {
     if (mpgc_count_links() == 0 && mpgc_count_described() == 0 && !mpgc_has_to_find()) return;

@@ -26,11 +26,11 @@
 #define GRANULE ((size_t)16)
 #define MAX_PAGES ((size_t)1 << 20)  // of the largest heap
 
-// What a page was last given to. A fresh one holds no object yet.
-enum page_kind { FRESH, ORDINARY, POINTER_FREE };
+// What a page was last given to. A fresh one holds no object yet, and one that was given back to the system none any more.
+enum page_kind { FRESH, ORDINARY, POINTER_FREE, GIVEN_BACK };
 
 // What is due, as names/pacing.c sees it, and the pieces of a cycle, of which names/steps.c says which is next.
-enum due { NOTHING, TIDYING, STEP, COLLECTION };
+enum due { NOTHING, TIDYING, STEP, COLLECTION, WAKE };
 enum piece { NO_PIECE, SWEEP, START, CLOSE, BEGIN, ROOTS, MARK, REREAD, END };
 
 // Figures, which everybody may write: whatever they say, no object is lost.
@@ -38,11 +38,12 @@ struct figures {
     uint64_t since, total, freed;  // words: asked for since the last collection and in all, and freed since
     uint64_t next;                 // words asked for at which a request looks what is due
     uint64_t marked;               // words of ordinary objects that the last collection has read
+    uint64_t roots;                // and of roots: bytes
     size_t limit;                  // the most pages that the program lets the heap have
     unsigned long cycles, full, faults, retraces;
     double longest_cycle_end, longest_full, full_time;  // microseconds
     unsigned long stops;                                // of other threads, with what their stopping took
-    double longest_stop, stop_time;
+    double longest_stop, stop_time, longest_standing;    // the last: from the request to the going on
 };
 HIDDEN extern struct figures mpgc_figures;
 
@@ -58,6 +59,10 @@ HIDDEN void mpgc_start_cycle(void);
 
 // More pages are counted as the heap's, if there are: nothing is known of a page, and nothing owed for it, before an object lies there.
 HIDDEN bool mpgc_grow(size_t pages);
+
+// Pages are swept, if there are so many that are to be: answers whether there were. And what is free of these is given back to the system.
+HIDDEN bool mpgc_sweep_some(size_t pages);
+HIDDEN void mpgc_give_back(size_t from, size_t to);
 
 // Words of an object that has just been made and is pointer-free are read as a descriptor says: so many bytes of it, again and again. And a
 // function that marks has this number. These add to what is read.
@@ -86,12 +91,16 @@ HIDDEN int mpgc_described_kind(uintptr_t base);
 HIDDEN bool mpgc_is_marked(uintptr_t base);
 HIDDEN bool mpgc_is_uncollectable(uintptr_t base);
 
-// These too. How many pages were last given to a kind, have something, have nothing, are to be swept, and are dirty.
+// These too. How many pages the heap has, were last given to a kind, have something, have nothing, ever had something, are to be swept, and
+// are dirty; and so many free ones in a row, of those that ever had something, are the lowest from this one on.
+HIDDEN size_t mpgc_pages(void);
 HIDDEN size_t mpgc_pages_of(enum page_kind kind);
 HIDDEN size_t mpgc_used_pages(void);
 HIDDEN size_t mpgc_free_pages(void);
+HIDDEN size_t mpgc_ever_used_pages(void);
 HIDDEN size_t mpgc_pending_pages(void);
 HIDDEN size_t mpgc_dirty_pages(void);
+HIDDEN size_t mpgc_free_run(size_t from, size_t *first);
 
 // And this one: words that count as asked for, and weren't given out yet.
 HIDDEN size_t mpgc_words_in_runs(void);
@@ -108,14 +117,18 @@ HIDDEN void mpgc_find_stack(const char **low, const char **bottom);
 
 // ---- What the audited files ask of the others, and rely on in nothing: any answer will do ----
 // Besides they ask GC_get_abort_func, GC_is_incremental_mode and, for figures, GC_size; read GC_dont_gc and GC_on_heap_resize;
-// write GC_gc_no and GC_non_gc_bytes; and give the program's handler of faults its mask by pthread_sigmask. tests/gc.sh has the list.
+// write GC_gc_no and GC_non_gc_bytes. tests/gc.sh has the list.
 
 // names/pacing.c
 HIDDEN enum due mpgc_due(bool is_asked);
+HIDDEN enum due mpgc_due_to_collector(void);
 HIDDEN void mpgc_tidied(bool did_some);
 HIDDEN void mpgc_set_budget(void);
 HIDDEN bool mpgc_is_off(void);
 HIDDEN GC_stop_func mpgc_stop_func(void);
+
+// names/beside.c. Whether the collector has a thread of its own.
+HIDDEN bool mpgc_is_beside(void);
 
 // names/steps.c
 HIDDEN enum piece mpgc_first_piece(void);
@@ -129,6 +142,7 @@ HIDDEN void mpgc_drop_cycle(void);
 HIDDEN double mpgc_now(void);
 HIDDEN void mpgc_count_collection(bool is_full, double start);
 HIDDEN void mpgc_count_stop(double took);
+HIDDEN void mpgc_count_standing(double took);
 
 // names/environment.c
 HIDDEN void mpgc_read_environment(void);
@@ -146,8 +160,10 @@ HIDDEN void mpgc_take_ready(void);
 HIDDEN void mpgc_tell_ready(void);
 HIDDEN void mpgc_forget_finalizer(uintptr_t base);
 
-// kernel/masks.c
+// kernel/masks.c and kernel/handlers.c
 HIDDEN const sigset_t *mpgc_without_faults(const sigset_t *signals, sigset_t *room);
+HIDDEN void mpgc_barrier_stands(const struct sigaction *old);
+HIDDEN void mpgc_pass_on(int number, siginfo_t *info, void *context);
 
 // lock.c. A program may take the lock, and give it back.
 #undef GC_alloc_lock

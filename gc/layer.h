@@ -1,25 +1,28 @@
 // What the audited files of libmpgc know of each other. x86-64, Linux, the GNU C library. Trusted, and not proved.
 //
 // Below them stands the proved heap of mpheap_c, above them a C program that knows bdwgc's gc.h, and may do what it likes. The proofs hold
-// for the program as far as these files keep what mpheap.h asks of a caller. They alone could lose an object or break memory: 2,340 lines
+// for the program as far as these files keep what mpheap.h asks of a caller. They alone could lose an object or break memory: 2,422 lines
 // of code in this folder, without blank ones and comments. Why names/ and kernel/ can't is said in front.h. This is all that they owe, in
 // the order in which they are best read, and the head of each says by which lines it pays:
 //
 //   start.c                "`heap` points to an mpheap that was opened and has not been closed since", and is opened once
 //   lock.c world.c         "Calls on one heap are made by one thread at a time", and what another thread writes falls into none that
 //                          reads the program's words
-//   signals.c handlers.c   ".. and never from a signal handler that interrupted one of them", with CALL and GRANTED below, in which every
-//                          call stands; and a write to a closed page reaches the barrier, whatever the program does with its signals
+//   signals.c              ".. and never from a signal handler that interrupted one of them", with CALL and GRANTED below, in which every
+//                          call stands; and a write to a closed page reaches the barrier
 //   protection.c pages.c   the barrier, which is the heart of the layer: "the address was told by mpheap_written first", while a cycle
 //                          marks; closed are pages of ordinary objects, and pages.c knows which
 //   spare.c                the same, while none does
+//   given.c                "the memory of a mapped heap's free pages may be given back to the system": of those alone
 //   requests.c runs.c      "any 64-bit word may be put at any 8-aligned address of an object that is kept at that moment": what is given
 //                          out is an object that a request has just made, once, and frees are the program's
 //   roots.c threads.c      what keeps it: every word by which the program may still reach an object is a root at a collection's end,
 //   locals.c               of each thread
 //   collect.c cycle.c      the core's calls in an order that keeps the last three
+//   collector.c            the same, by a thread of the layer's own: it only says when
 //   ending.c described.c   of objects that the core doesn't read, each word that points is a root at a cycle's end
 //   links.c                the layer's own writes to words of the program: in kept objects alone
+//   table.c                what links.c and described.c know, so that it keeps nothing
 //
 // "Each out parameter points to a number of its own, outside of every heap": they are locals and, for runs.c, the layer's own. "malloc,
 // realloc and free are those of one allocator": the core asks for memory in start.c alone, and gives none back.
@@ -93,9 +96,6 @@ HIDDEN extern struct layer mpgc;
 static inline bool mpgc_is_inside(uintptr_t address) { return address - FIRST < MAX_PAGES * PAGE; }
 static inline size_t mpgc_page_of(uintptr_t address) { return (address - FIRST) / PAGE; }
 
-// A place in a table of so many, a power of 2.
-static inline size_t mpgc_hash(uintptr_t address, size_t room) { return address / WORD * 0x9E3779B97F4A7C15u >> 20 & (room - 1); }
-
 static inline struct run *mpgc_run_of(struct thread *thread, size_t granules, enum page_kind kind)
 {
     return &thread->runs[kind == POINTER_FREE][granules];
@@ -118,6 +118,7 @@ HIDDEN void mpgc_lock_slowly(void);
 HIDDEN void mpgc_unlock_slowly(void);
 HIDDEN void mpgc_become_threaded(void);
 HIDDEN void mpgc_lock_in_child(void);
+HIDDEN void mpgc_give_way(void);
 HIDDEN uint32_t mpgc_my_number(void);
 HIDDEN extern _Thread_local unsigned mpgc_lock_depth __attribute__((tls_model("initial-exec")));
 static inline void mpgc_lock(void)
@@ -187,6 +188,16 @@ HIDDEN void mpgc_set_keys(struct thread *thread);
 HIDDEN int mpgc_set_own_key(pthread_key_t key, const void *value);
 HIDDEN void mpgc_drop_keys(void);
 
+// table.c
+struct entry { struct entry *next; uintptr_t number; };
+struct table { struct entry **chains; size_t count, room; };
+HIDDEN struct entry **mpgc_place(const struct table *table, uintptr_t number);
+HIDDEN void mpgc_put(struct table *table, struct entry *one);
+HIDDEN struct entry *mpgc_take(struct table *table, struct entry **at);
+HIDDEN void mpgc_push(struct entry **list, struct entry *one);
+HIDDEN struct entry *mpgc_pop(struct entry **list);
+HIDDEN void mpgc_free_all(struct entry **list);
+
 // ending.c and described.c
 HIDDEN void mpgc_end_marks(void);
 HIDDEN void mpgc_mark_words(void);
@@ -199,7 +210,6 @@ HIDDEN size_t mpgc_count_described(void);
 // pages.c
 HIDDEN bool mpgc_learn(uintptr_t base, size_t words, enum page_kind kind);
 HIDDEN void mpgc_set_uncollectable(uintptr_t base, bool on);
-HIDDEN bool mpgc_sweep_some(size_t pages);
 
 // protection.c
 HIDDEN void mpgc_let_write(size_t page);
@@ -208,7 +218,8 @@ HIDDEN void mpgc_holds_pointer_free(size_t page);
 HIDDEN void mpgc_start_closing(void);
 HIDDEN bool mpgc_close_some(void);
 HIDDEN void mpgc_tell_open(void);
-HIDDEN size_t mpgc_close_lowest(void);
+HIDDEN size_t mpgc_close_lowest(size_t most);
+HIDDEN bool mpgc_is_pinned(void);
 HIDDEN void mpgc_tell_pinned(void);
 HIDDEN void mpgc_drop_pins(struct thread *thread);
 HIDDEN void mpgc_stop_closing(void);
@@ -216,17 +227,16 @@ HIDDEN bool mpgc_open_some(void);
 HIDDEN void mpgc_open_all(void);
 HIDDEN void mpgc_leave_open(void);
 
-// signals.c. The C library's sigaction by its other name, since handlers.c takes that one for the program.
+// signals.c. The C library's sigaction by its other name, since kernel/handlers.c takes that one for the program.
 extern int __sigaction(int number, const struct sigaction *next, struct sigaction *old);
 HIDDEN void mpgc_take_faults(void);
-HIDDEN bool mpgc_swap_handler(const struct sigaction *next, struct sigaction *old);
 HIDDEN void mpgc_block_signals(sigset_t *old);
 HIDDEN void mpgc_restore_signals(const sigset_t *old);
 
 // roots.c
 HIDDEN void mpgc_read_roots(void);
 HIDDEN void mpgc_take_roots(bool on);
-HIDDEN void mpgc_empty_stacks(void);
+HIDDEN void mpgc_empty_stack(void);
 HIDDEN bool mpgc_with_registers(bool (*work)(void *), void *data);
 HIDDEN bool mpgc_from_here(bool (*work)(void *), void *data);
 
@@ -240,5 +250,10 @@ HIDDEN void mpgc_make_spare(void);
 HIDDEN void mpgc_need_full_cycle(void);
 HIDDEN void mpgc_decide_links(bool is_long);
 HIDDEN void mpgc_clear_links(void);
+HIDDEN bool mpgc_tidy(void);
+
+// collector.c. The lock is held.
+HIDDEN bool mpgc_wake_collector(bool may_start);
+HIDDEN void mpgc_lose_collector(void);
 
 #endif

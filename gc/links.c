@@ -9,79 +9,40 @@
 //   "any 64-bit word may be put at any 8-aligned         a word of the program that lay in an object which is gone is left as it is, and
 //   address of an object that is kept at that moment"    its link is gone too
 //
-// Nothing is freed while other threads are stopped, since one of them may have the lock of `malloc`.
+// Nothing is freed while other threads are stopped (table.c).
 #include "layer.h"
 #include <stdlib.h>
 
-struct link { struct link *next; GC_hidden_pointer word, object; bool is_long; };
-static struct link **chains, *to_clear, *to_free;
-static size_t count, room;
+// Its number hides the word, whose lowest bit says there whether it is short.
+struct link { struct entry entry; GC_hidden_pointer object; };
+static struct table links;
+static struct entry *to_clear, *to_free;
 
-static struct link **chain_of(void **word) { return &chains[mpgc_hash((uintptr_t)word, room)]; }
+static struct entry **place_of(void **word, bool is_long) { return mpgc_place(&links, GC_HIDE_POINTER(word) - is_long); }
 
-static struct link **place_of(void **word, bool is_long)
+static void **word_of(const struct entry *one) { return (void **)~(one->number | 1); }
+
+// Those of which `goes` says so are put on the list.
+static void move_those(bool (*goes)(const struct entry *one), struct entry **list)
 {
-    static struct link *none;
-    struct link **at = room == 0 ? &none : chain_of(word);
-    while (*at && ((*at)->is_long != is_long || (*at)->word != GC_HIDE_POINTER(word))) at = &(*at)->next;
-    return at;
-}
-
-static void put(struct link **list, struct link *one)
-{
-    one->next = *list;
-    *list = one;
-}
-
-static struct link *take(struct link **at)
-{
-    struct link *one = *at;
-    *at = one->next;
-    return one;
-}
-
-static void grow(void)
-{
-    struct link **old = chains;
-    size_t old_room = room;
-    room = room ? 2 * room : 64;
-    chains = calloc(room, sizeof *chains);
-    if (!chains) mpgc_stop("no memory for a disappearing link");
-    for (size_t k = 0; k < old_room; k++) {
-        while (old[k]) {
-            struct link *one = take(&old[k]);
-            put(chain_of(GC_REVEAL_POINTER(one->word)), one);
-        }
-    }
-    free(old);
-}
-
-// Does for each link what `goes` says: it is put on the list.
-static void move_those(bool (*goes)(const struct link *one), struct link **list)
-{
-    for (size_t k = 0; k < room; k++) {
-        for (struct link **at = &chains[k]; *at;) {
-            if (!goes(*at)) {
+    for (size_t k = 0; links.count > 0 && k < links.room; k++) {
+        for (struct entry **at = &links.chains[k]; *at;) {
+            if (goes(*at))
+                mpgc_push(list, mpgc_take(&links, at));
+            else
                 at = &(*at)->next;
-                continue;
-            }
-            put(list, take(at));
-            count--;
         }
     }
 }
 
-static bool is_unmarked(const struct link *one) { return !mpgc_is_marked(~one->object); }
-static bool is_short_unmarked(const struct link *one) { return !one->is_long && is_unmarked(one); }
+static bool is_unmarked(const struct entry *one) { return !mpgc_is_marked(~((const struct link *)one)->object); }
+static bool is_short_unmarked(const struct entry *one) { return (one->number & 1) && is_unmarked(one); }
 
-void mpgc_decide_links(bool is_long)
-{
-    if (count > 0) move_those(is_long ? is_unmarked : is_short_unmarked, &to_clear);
-}
+void mpgc_decide_links(bool is_long) { move_those(is_long ? is_unmarked : is_short_unmarked, &to_clear); }
 
-static bool lies_in_what_is_gone(const struct link *one)
+static bool lies_in_what_is_gone(const struct entry *one)
 {
-    uintptr_t base, word = (uintptr_t)GC_REVEAL_POINTER(one->word);
+    uintptr_t base, word = (uintptr_t)word_of(one);
     size_t words;
     return mpgc_is_inside(word) && !mpgc_find(word, &base, &words);
 }
@@ -89,15 +50,15 @@ static bool lies_in_what_is_gone(const struct link *one)
 // A cycle has ended, and the program doesn't run.
 void mpgc_clear_links(void)
 {
-    if (count > 0) move_those(lies_in_what_is_gone, &to_free);
+    move_those(lies_in_what_is_gone, &to_free);
     while (to_clear) {
-        struct link *one = take(&to_clear);
-        if (!lies_in_what_is_gone(one)) *(void **)GC_REVEAL_POINTER(one->word) = NULL;
-        put(&to_free, one);
+        struct entry *one = mpgc_pop(&to_clear);
+        if (!lies_in_what_is_gone(one)) *word_of(one) = NULL;
+        mpgc_push(&to_free, one);
     }
 }
 
-size_t mpgc_count_links(void) { return count; }
+size_t mpgc_count_links(void) { return links.count; }
 
 static int set_link(void **word, const void *object, bool is_long)
 {
@@ -105,40 +66,35 @@ static int set_link(void **word, const void *object, bool is_long)
     size_t words;
     if (!word || (uintptr_t)word % WORD != 0) mpgc_stop("a disappearing link at what isn't the address of a word");
     if (!mpgc_find((uintptr_t)object, &base, &words)) mpgc_stop("a disappearing link to what isn't an object of the heap");
-    while (to_free) free(take(&to_free));
-    if (count == room) grow();
-    struct link **at = place_of(word, is_long);
-    if (*at) {
-        (*at)->object = GC_HIDE_POINTER(base);
-        return GC_DUPLICATE;
-    }
-    struct link *one = malloc(sizeof *one);
+    mpgc_free_all(&to_free);
+    struct entry **at = place_of(word, is_long);
+    struct link *one = *at ? (struct link *)*at : malloc(sizeof *one);
     if (!one) return GC_NO_MEMORY;
-    *one = (struct link){ NULL, GC_HIDE_POINTER(word), GC_HIDE_POINTER(base), is_long };
-    *at = one;
-    count++;
+    one->object = GC_HIDE_POINTER(base);
+    if (*at) return GC_DUPLICATE;
+    one->entry.number = GC_HIDE_POINTER(word) - is_long;
+    mpgc_put(&links, &one->entry);
     return GC_SUCCESS;
 }
 
 static int remove_link(void **word, bool is_long)
 {
-    struct link **at = place_of(word, is_long);
+    struct entry **at = place_of(word, is_long);
     if (!*at) return 0;
-    free(take(at));
-    count--;
+    free(mpgc_take(&links, at));
     return 1;
 }
 
 static int move_link(void **word, void **into, bool is_long)
 {
-    struct link **at = place_of(word, is_long);
+    struct entry **at = place_of(word, is_long);
     if (!*at) return GC_NOT_FOUND;
     if (word == into) return GC_SUCCESS;
     if (*place_of(into, is_long)) return GC_DUPLICATE;
     if (!into || (uintptr_t)into % WORD != 0) mpgc_stop("a disappearing link is moved to what isn't the address of a word");
-    struct link *one = take(at);
-    one->word = GC_HIDE_POINTER(into);
-    put(chain_of(into), one);
+    struct entry *one = mpgc_take(&links, at);
+    one->number = GC_HIDE_POINTER(into) - is_long;
+    mpgc_put(&links, one);
     return GC_SUCCESS;
 }
 

@@ -8,17 +8,24 @@
 // is counted by the thread itself, and where a handler took it and gave it away between the two the thread takes it anew. A waiting thread
 // can be stopped (world.c), since who stops it has the lock: so nobody may wait for it with that signal blocked. Until there is a second
 // thread it is counted alone.
+//
+// Who was woken finds it taken again by a thread that takes it step after step: so that one gives way between two (mpgc_give_way).
 #include "layer.h"
+#include <errno.h>
 #include <linux/futex.h>
 #include <sys/syscall.h>
+#include <time.h>
 #include <unistd.h>
 
 #define WAITED_FOR ((uint32_t)1 << 31)
-enum { SPINS = 100 };
+enum { SPINS = 100, MOST_WAYS = 16 };
 
 _Thread_local unsigned mpgc_lock_depth;
 static _Atomic uint32_t word;  // the number of the thread that has it, or 0; and whether others wait
 static _Thread_local uint32_t me __attribute__((tls_model("initial-exec")));
+static _Atomic uint32_t waiting;  // so many threads wait for it
+static _Atomic uint32_t handed;   // so often one of these has got it
+static atomic_bool gives_way;     // and a thread sleeps until the next one has
 
 uint32_t mpgc_my_number(void)
 {
@@ -32,7 +39,7 @@ bool mpgc_has_lock(void) { return mpgc_lock_depth > 0; }
 
 static bool change(uint32_t from, uint32_t to) { return atomic_compare_exchange_strong(&word, &from, to); }
 
-static void wait_for_it(void)
+static void take_late(void)
 {
     for (int k = 0; k < SPINS; k++) {
         if (atomic_load_explicit(&word, memory_order_relaxed) == 0 && change(0, me)) return;
@@ -45,6 +52,29 @@ static void wait_for_it(void)
         } else if ((seen & WAITED_FOR) || change(seen, seen | WAITED_FOR)) {
             syscall(SYS_futex, &word, FUTEX_WAIT_PRIVATE, seen | WAITED_FOR, NULL, NULL, 0);
         }
+    }
+}
+
+static void wait_for_it(void)
+{
+    waiting++;
+    take_late();
+    waiting--;
+    handed++;
+    if (gives_way) syscall(SYS_futex, &handed, FUTEX_WAKE_PRIVATE, 1, NULL, NULL, 0);
+}
+
+// Who has given it away, and will take it again at once, lets those have it first that wait; but for no longer than a moment, since one of
+// them may have been told to wait itself (world.c).
+void mpgc_give_way(void)
+{
+    static const struct timespec moment = { 0, 1000000 };
+    for (unsigned k = 0; k < MOST_WAYS && waiting > 0; k++) {
+        uint32_t seen = handed;
+        gives_way = true;
+        bool is_late = waiting > 0 && syscall(SYS_futex, &handed, FUTEX_WAIT_PRIVATE, seen, &moment, NULL, 0) != 0 && errno == ETIMEDOUT;
+        gives_way = false;
+        if (is_late) return;
     }
 }
 
@@ -81,6 +111,7 @@ void mpgc_become_threaded(void)
 void mpgc_lock_in_child(void)
 {
     me = 0;
+    waiting = 0;
     if (mpgc.is_threaded) word = mpgc_my_number();
 }
 

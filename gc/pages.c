@@ -4,9 +4,9 @@
 // It rests on one fact of the core (heap_spec, Room): a page that holds objects holds objects of one kind.
 #include "layer.h"
 
-static size_t count[3];  // of pages of each kind, but fresh ones
+static size_t count[4];  // of pages of each kind, but fresh ones
 
-// Objects of this kind came to lie on the page.
+// Objects of this kind came to lie on the page, or none do.
 static void learn_page(size_t page, enum page_kind kind)
 {
     enum page_kind old = mpgc.kind[page];
@@ -16,7 +16,7 @@ static void learn_page(size_t page, enum page_kind kind)
     count[kind]++;
     if (kind == POINTER_FREE)
         mpgc_holds_pointer_free(page);
-    else if (mpgc.is_marking)
+    else if (kind == ORDINARY && mpgc.is_marking)
         mpgc_holds_ordinary(page);
 }
 
@@ -45,6 +45,7 @@ size_t mpgc_used_pages(void) { return mpgc.all - mpgc_free_pages(); }
         return pages; \
     }
 COUNTS(mpgc_free_pages, mpheap_free_pages)
+COUNTS(mpgc_ever_used_pages, mpheap_used_pages)
 COUNTS(mpgc_pending_pages, mpheap_pending_pages)
 COUNTS(mpgc_dirty_pages, mpheap_dirty_pages)
 
@@ -66,9 +67,7 @@ bool mpgc_grow(size_t pages)
     return true;
 }
 
-size_t GC_get_heap_size(void) { return mpgc.size * PAGE; }
-
-int GC_is_heap_ptr(const void *address) { return (uintptr_t)address - FIRST < mpgc.size * PAGE; }
+size_t mpgc_pages(void) { return mpgc.size; }
 
 bool mpgc_is_uncollectable(uintptr_t base)
 {

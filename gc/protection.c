@@ -23,7 +23,7 @@
 //     has begun as all open ones are, and anew behind retraces (`mpgc_tell_pinned`).
 //
 // Why it holds beside several threads. Who tells, opens, closes or cleans a page has the lock, so these come one after the other. While a
-// cycle marks, pages are closed and cleaned only while no other thread runs (world.c). Where two threads fault on one page, the first to
+// cycle marks, pages are closed and cleaned only while no other thread runs (world.c), but for those of a step beside threads, below. Where two threads fault on one page, the first to
 // have the lock tells and opens it; the second finds it open, and makes its write again. A thread that is stopped between its fault and its
 // handler, or waits there for the lock, hasn't written yet: what it finds afterwards is a closed page, which it tells, or an open one, which
 // was told since it was closed last. A thread that is stopped before its write faults when it goes on, if the page was closed meanwhile. So
@@ -32,9 +32,36 @@
 // word of an object that the program has, and is as good before that call as behind it. And it may come between a page's opening under a
 // call and its telling at that call's end: nothing reads there meanwhile, so it is as good behind the telling.
 //
+// Why it holds beside a step, where the collector has a thread of its own (collector.c), and the others run while it reads. Owed is
+// besides, of mpheap.h, "while the call runs, no word of an object that is not pointer-free is written but on pages that were dirty when it
+// began", and of mpheap_retrace_beside, "on the page that it reads, the lowest dirty one, nobody writes" such a word.
+//
+//   1. A step has the lock from before its first call until behind its last. Who tells, opens, closes or cleans a page, allocates, frees or
+//      sweeps has it too: so none of these falls into a step.
+//   2. The rule above holds whenever nobody has the lock. What was opened under a call, or in the middle of a telling, is told before the
+//      lock is given back, or at the latest before the step (mpgc_tell_noted, cycle.c). So when a step begins each open page of ordinary
+//      objects is dirty: it was told, and only closed pages were cleaned since; pinned ones may be cleaned in a stop, and are told anew there.
+//   3. While it runs, a write to a closed page faults before anything is written, and its handler waits for the lock, behind this step and no
+//      other (mpgc_give_way, lock.c). A write to an open page is done at once, and lies on a dirty page. That is the first thing owed.
+//   4. To read pages again, a run of the lowest open ones is closed and as many of the lowest dirty ones are read before the lock is given
+//      back. No open page of ordinary objects lies below, so these are closed, or hold none. A pinned page might lie there: so while there is
+//      one, pages are read again in a stop. That is the second thing.
+//   5. Before mprotect has closed a page each processor that could write there has dropped its translation, and so has made its stores there:
+//      the step sees them. A thread whose store comes later faults. A store is done again when its thread goes on, and may fault again.
+//   6. A word is read by one aligned load of 8 bytes, once (tests/gc/loads.sh looks at the code), and such a load isn't torn: it sees what
+//      stood there at one moment, whole pointer or half of one.
+//   7. An object that a thread takes from its run without the lock was allocated under it: marked, if a cycle marked then, and else a root
+//      of each reading of roots, until it is taken. Then its words are written as any object's are, and a root or a word names it.
+//   8. Roots are read for the last time in the stop that ends the cycle. A pointer that moved between registers, objects that were read and
+//      objects that weren't is a root then, or stands in a new place: which is a word of a dirty page, that mpheap_finish reads.
+//   9. A handler's thread may have the lock itself, and then takes it again: it isn't the collector's, whose steps write no word of the heap.
+//      A thread that is stopped in its handler has written nothing; in a child there is no other thread, and no step was under way.
+//
 // Of this are proved, below: what is owed (the clauses above), and that a program which pays it loses nothing, whatever it writes
-// (heap_core, the laws of direct writes). That a write beside a call is as good before or behind it is argued here, as is all that the
-// kernel does.
+// (heap_core, the laws of direct writes); and that a step beside writers keeps the marks' invariant whatever of the moments' words it reads,
+// and counts as lines before which, or behind which, these writes were made (MarksBeside, RetracesBeside, BesideIsLines,
+// WrittenBesideIsWrittenAfter). That a write beside a call is as good before or behind it is argued here, as is all that the kernel and the
+// processor do (5 and 6 of them).
 //
 // Where no cycle marks nothing is owed, since a full cycle is needed then (spare.c): pages that are still closed are opened untold, by
 // blocks, at a write or a few at a time.
@@ -42,9 +69,6 @@
 #include <errno.h>
 #include <string.h>
 #include <sys/mman.h>
-
-// At most so many neighbouring pages are closed at once, and then as many dirty ones read again.
-enum { RUN = 16 };
 
 static bool is_closing;            // pages are being closed, and then a cycle begins
 static atomic_size_t lowest_open;  // while a cycle marks, no open page of ordinary objects lies below, but pinned ones
@@ -217,17 +241,27 @@ static size_t each_pinned(void (*work)(size_t page), size_t end)
     return once;
 }
 
-// Closes the lowest run of open pages, under blocked signals. Answers how often mpheap_retrace may be called then: as often as pages were
-// closed, or as one likes where none was open, and for each pinned page below, which is dirty too, and read again with them. Where no more
-// may be closed, it may not be called.
-size_t mpgc_close_lowest(void)
+// Closes the lowest run of open pages, of at most so many, under blocked signals. Answers how often mpheap_retrace may be called then: as
+// often as pages were closed, or as one likes where none was open, and for each pinned page below, which is dirty too, and read again with
+// them. Where no more may be closed, it may not be called.
+size_t mpgc_close_lowest(size_t most)
 {
     size_t page = lowest_open;
     if (is_crowded()) return 0;
     while (page < mpgc.size && !is_to_close(page)) page++;
     bool is_one = page < mpgc.size;
-    lowest_open = is_one ? close_run(page, RUN) : page;
-    return (is_one ? lowest_open - page : RUN) + each_pinned(NULL, lowest_open);
+    lowest_open = is_one ? close_run(page, most) : page;
+    return (is_one ? lowest_open - page : most) + each_pinned(NULL, lowest_open);
+}
+
+// Whether a page of ordinary objects stays open for the kernel.
+bool mpgc_is_pinned(void)
+{
+    for (const struct thread *one = mpgc.threads; one; one = one->next)
+        for (const struct pages *range = one->pinned; range < one->pinned + one->pins; range++)
+            for (size_t page = range->from; page < range->to; page++)
+                if (is_open_ordinary(page)) return true;
+    return false;
 }
 
 // To be called behind these retraces, before another thread runs: the pages that they have cleaned may be some that stayed open.

@@ -3,9 +3,9 @@
 // What it owes the core: a collection keeps what root words lead to (mpheap_collect, clause CollectsAll; mpheap_finish, clause
 // EndsCycle) and nothing more, so each word by which the program may still reach an object has to be a root word then.
 //
-// It pays with the stacks of the heap's mutators. All candidates are read, and those that are addresses of the heap are pushed. When
-// the stacks are full, the heap marks what they point into (mpheap_roots, clause ReadsRoots.roots), and they are filled anew: what is
-// marked stays marked until the cycle ends, and its end keeps all that marks lead to (EndsCycle.forgets). So there is no limit to them.
+// It pays with the stack of a mutator. All candidates are read, and those that are addresses of the heap are pushed. When the stack is full,
+// the heap marks what it points into (mpheap_roots, clause ReadsRoots.roots), and it is filled anew: what is marked stays marked until the
+// cycle ends, and its end keeps all that marks lead to (EndsCycle.forgets). So there is no limit to them.
 //
 // A callee-saved register may hold the only pointer to an object: they are saved by hand, since `setjmp` of this C library hides some.
 // The others are the caller's to save, and lie on its stack.
@@ -17,7 +17,6 @@
 #error "libmpgc knows the registers of x86-64 alone"
 #endif
 #define UNCHECKED __attribute__((no_sanitize("address")))
-enum { ROOT_SLOTS = MPHEAP_SLOTS - 1 };
 
 char *GC_stackbottom;  // where the program says that its stack ends
 int GC_no_dls;         // objects that were loaded aren't read
@@ -28,37 +27,40 @@ struct ranges { struct range *at; size_t count, room; };
 static struct ranges added, excluded;
 static GC_has_static_roots_func is_scanned;
 
-// The stacks that are filled.
-static uint8_t slots[ROOT_SLOTS];
-static size_t attached, filling, depth;
+// The mutator whose stack is filled, once there is one, and how far.
+static uint8_t filling;
+static bool is_attached;
+static size_t depth;
 
 static void must(uint32_t status)
 {
     if (status != MPHEAP_OK) mpgc_stop("the heap refused a call that it must not refuse");
 }
 
-static void empty_stacks(void)
+static void empty_stack(void)
 {
-    for (size_t k = 0; k < attached; k++) must(mpheap_detach(&mpgc.heap, slots[k]));
-    for (attached = 0; attached < ROOT_SLOTS; attached++) must(mpheap_attach(&mpgc.heap, &slots[attached]));
-    filling = depth = 0;
+    if (is_attached) must(mpheap_detach(&mpgc.heap, filling));
+    must(mpheap_attach(&mpgc.heap, &filling));
+    is_attached = true;
+    depth = 0;
 }
 
-// What the stacks hold is marked, and they are empty again.
-static void mark_stacks(void)
+// Full, what it holds is marked: and what that leads to at once, where a cycle ends, since the core's own stack has no more entries.
+static bool is_ending;
+static void mark_stack(void)
 {
+    uint64_t read = 0;
     must(mpheap_roots(&mpgc.heap));
-    empty_stacks();
+    if (is_ending) must(mpheap_mark(&mpgc.heap, UINT64_MAX, &read));
+    mpgc_figures.marked += read;
+    empty_stack();
 }
 
 static void push(uint64_t word)
 {
-    if (depth == MPHEAP_STACK_WORDS) {
-        depth = 0;
-        if (++filling == ROOT_SLOTS) mark_stacks();
-    }
-    must(mpheap_set(&mpgc.heap, slots[filling], 0, word));
-    must(mpheap_push(&mpgc.heap, slots[filling], 0));
+    if (depth == MPHEAP_STACK_WORDS) mark_stack();
+    must(mpheap_set(&mpgc.heap, filling, 0, word));
+    must(mpheap_push(&mpgc.heap, filling, 0));
     depth++;
 }
 
@@ -76,6 +78,7 @@ UNCHECKED static void scan(const char *from, const char *to)
     const uint64_t *word = (const uint64_t *)(((uintptr_t)from + WORD - 1) & ~(WORD - 1));
     const uint64_t *end = (const uint64_t *)((uintptr_t)to & ~(WORD - 1));
     const size_t bytes = mpgc.size * PAGE;
+    mpgc_figures.roots += (size_t)(to - from);
     for (; word + 4 <= end; word += 4) {
         uint64_t nearest = least(least(word[0] - FIRST, word[1] - FIRST), least(word[2] - FIRST, word[3] - FIRST));
         for (size_t k = 0; nearest < bytes && k < 4; k++) push_inside(word[k]);
@@ -176,7 +179,7 @@ static void scan_uncollectable(void)
 // ---- What the program and the layer push besides, while roots are taken ----
 
 static bool takes_roots;
-void mpgc_take_roots(bool on) { takes_roots = on; }
+void mpgc_take_roots(bool on) { takes_roots = is_ending = on; }
 
 void mpgc_mark_from(uintptr_t word)
 {
@@ -186,10 +189,10 @@ void mpgc_mark_from(uintptr_t word)
     mpgc_call_ends();
 }
 
-void mpgc_empty_stacks(void)
+void mpgc_empty_stack(void)
 {
     mpgc_call_begins();
-    empty_stacks();
+    empty_stack();
     mpgc_call_ends();
 }
 
@@ -222,14 +225,15 @@ static void push_others(void)
     takes_roots = false;
 }
 
-// The roots are in the stacks, or, where they are more than these hold, marked. A cycle is marking, and signals are blocked.
+// The roots are on the stack, or, where they are more than it holds, marked. A cycle is marking, and signals are blocked.
 void mpgc_read_roots(void)
 {
     size_t objects = 0;
+    mpgc_figures.roots = 0;
     mpgc_call_begins();
     must(mpheap_set(&mpgc.heap, mpgc.slot, 0, 0));
     must(mpheap_set(&mpgc.heap, mpgc.slot, 1, 0));
-    empty_stacks();
+    empty_stack();
     mpgc_scan_threads(scan, push_inside);
     dl_iterate_phdr(scan_object, &objects);
     for (size_t k = 0; k < added.count; k++) scan(added.at[k].from, added.at[k].to);

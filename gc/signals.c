@@ -1,5 +1,4 @@
-// Signals: the handler of the faults that closed pages make, the program's own handler of faults behind it, and the collector's calls
-// without interruption. Trusted, not proved.
+// Signals: the handler of the faults that closed pages make, and the collector's calls without interruption. Trusted, not proved.
 //
 // What it owes the core, of mpheap.h:
 //
@@ -13,9 +12,6 @@
 #include <sys/syscall.h>
 #include <ucontext.h>
 #include <unistd.h>
-
-static struct sigaction before;  // what the program does on a fault
-static bool is_installed;
 
 // By the kernel's own call: those of the C library are taken for the program (kernel/masks.c), and the collector's calls don't use them.
 static void set_signals(const sigset_t *blocked, sigset_t *old)
@@ -36,30 +32,6 @@ void mpgc_block_signals(sigset_t *old)
 }
 
 void mpgc_restore_signals(const sigset_t *old) { set_signals(old, NULL); }
-
-// The fault isn't of the barrier's making: the program's own handler runs, under the signals that it would see.
-static void pass_on(int number, siginfo_t *info, void *context)
-{
-    const ucontext_t *interrupted = context;
-    struct sigaction program = before;
-    bool was_sent = info->si_code <= 0;
-    if (program.sa_handler == SIG_IGN && was_sent) return;
-    if (program.sa_handler == SIG_DFL || program.sa_handler == SIG_IGN) {
-        is_installed = false;
-        signal(number, SIG_DFL);  // the instruction faults again, and ends the program
-        if (was_sent) raise(number);
-        return;
-    }
-    if (program.sa_flags & SA_RESETHAND) before.sa_handler = SIG_DFL;
-    sigset_t blocked;
-    sigorset(&blocked, &interrupted->uc_sigmask, &program.sa_mask);
-    if (!(program.sa_flags & SA_NODEFER)) sigaddset(&blocked, number);
-    pthread_sigmask(SIG_SETMASK, &blocked, NULL);
-    if (program.sa_flags & SA_SIGINFO)
-        program.sa_sigaction(number, info, context);
-    else
-        program.sa_handler(number);
-}
 
 enum { RED_ZONE = 128 };
 
@@ -86,7 +58,7 @@ static void on_fault(int number, siginfo_t *info, void *context)
     uintptr_t address = (uintptr_t)info->si_addr;
     bool is_ours = info->si_code == SEGV_ACCERR && mpgc_is_inside(address) && is_write(context);
     if (!is_ours || !(mpgc.is_threaded || mpgc.is_closed[mpgc_page_of(address)])) {
-        pass_on(number, info, context);
+        mpgc_pass_on(number, info, context);
         return;
     }
     if (!mpgc_self && !mpgc.is_threaded) mpgc_stop("a thread that nobody told of wrote into the heap: call GC_allow_register_threads first");
@@ -101,27 +73,14 @@ static void on_fault(int number, siginfo_t *info, void *context)
     errno = kept;
 }
 
-// To be called before pages are closed, under blocked signals: where the C library's calls aren't taken (handlers.c), the program may have
-// set its own handler.
+// To be called before pages are closed, under blocked signals: where the C library's calls aren't taken (kernel/handlers.c), the program may
+// have set its own handler.
 void mpgc_take_faults(void)
 {
     struct sigaction ours = { .sa_sigaction = on_fault, .sa_flags = SA_SIGINFO | SA_ONSTACK | SA_RESTART }, old;
-    bool was_installed = is_installed;
     sigfillset(&ours.sa_mask);
     sigdelset(&ours.sa_mask, SIGPWR);
-    is_installed = false;
     if (__sigaction(SIGSEGV, &ours, &old) != 0) mpgc_stop("the kernel refused a handler of faults");
-    bool is_ours = was_installed && (old.sa_flags & SA_SIGINFO) && old.sa_sigaction == on_fault;
-    if (!is_ours) before = old;
-    is_installed = true;
-}
-
-// What the program sets on faults, and what it had set, while the layer's handler stands; answers false where it doesn't.
-bool mpgc_swap_handler(const struct sigaction *next, struct sigaction *old)
-{
-    if (!is_installed) return false;
-    struct sigaction was = before;
-    if (next) before = *next;
-    if (old) *old = was;
-    return true;
+    bool is_ours = (old.sa_flags & SA_SIGINFO) && old.sa_sigaction == on_fault;
+    mpgc_barrier_stands(is_ours ? NULL : &old);
 }

@@ -8,7 +8,7 @@
 //   - A thread that others made (by the kernel's own call, say) is known from its first request on.
 //
 // They are as many as the program makes: the core's mutators aren't its threads. All requests go by one mutator of the layer's, under the
-// lock, and the others hold the roots of all threads while a collection reads them (roots.c).
+// lock, and another one holds the roots of all threads while a collection reads them (roots.c).
 #include "layer.h"
 #include "kernel/next.h"
 #include <errno.h>
@@ -156,6 +156,7 @@ static void forget(struct thread *self)
     mpgc_self = NULL;
     mpgc_drop_pins(self);
     unlink_if_over(self);
+    (void)mpgc_wake_collector(false);
     mpgc_unlock();
 }
 
@@ -361,6 +362,7 @@ static void in_child(void)
 {
     struct thread *one = mpgc.threads;
     mpgc_lock_in_child();
+    mpgc_lose_collector();
     if (mpgc_self) mpgc_self->number = mpgc_my_number();
     while (one) {
         struct thread *next = one->next;

@@ -3,9 +3,10 @@
 // What it owes the core, of mpheap.h:
 //
 //   "Between calls, any 64-bit word may be put ..."   a call that reads words of the program (mpheap_begin, roots, mark, retrace, finish) is
-//                                                     made while no other thread runs: so none of its writes falls into one. The other
-//                                                     calls read and write no word of an object that the program has, so that a write
-//                                                     beside one is as good as one before it (argued: see protection.c)
+//                                                     made while no other thread runs: so none of its writes falls into one (but
+//                                                     mpheap_mark_beside and mpheap_retrace_beside allow them). The other calls read and
+//                                                     write no word of an object that the program has, so that a write beside one is as
+//                                                     good as one before it (argued: see protection.c)
 //
 // Who stops the world has the lock. Each thread that runs is sent a signal, whose handler says where its stack begins, and waits. The
 // registers that it had lie above, in the signal's frame. A thread is told to go on by a number that the waiting ones wait for; no second
@@ -28,6 +29,7 @@ enum { SUSPEND = SIGPWR, PATIENCE = 20 };  // seconds
 static _Atomic uint32_t turn;     // odd while the world is stopped
 static _Atomic uint32_t answers;  // of threads that wait in this turn
 static unsigned stops;            // so often it was stopped, and not started
+static double stopped_at;
 static bool is_installed;
 
 bool mpgc_world_is_stopped(void) { return stops > 0; }
@@ -116,6 +118,7 @@ static void stop_others(void)
 {
     uint32_t sent = 0;
     double start = mpgc_now();
+    stopped_at = start;
     answers = 0;
     turn++;
     for (struct thread *one = mpgc.threads; one; one = one->next)
@@ -144,6 +147,7 @@ void mpgc_start_world(void)
     if (--stops > 0 || !mpgc.is_threaded || turn % 2 == 0) return;
     turn++;
     wake(&turn);
+    mpgc_count_standing(mpgc_now() - stopped_at);
 }
 
 SHOWN void GC_stop_world_external(void);

@@ -321,25 +321,32 @@ static inline void mpheap_written_all(mpheap *heap, uint32_t pages) {
     mpheap_written_range(heap, MPHEAP_FIRST_ADDRESS, (uint64_t)pages * MPHEAP_PAGE_BYTES);
 }
 
-/* The pages that need no telling now: those that were told since a call last cleaned one. mpheap_tells_anew empties it, after an
- * open and after each begin, retrace, finish and collect; then mpheap_write tells a page once, at a test of one byte for each
- * further write. It has the first MPHEAP_MAX_PAGES pages alone: a write to a page past them tells each time. */
+/* The pages that need no telling now: those that were told since a call last cleaned one. It begins as MPHEAP_TOLD. mpheap_tells_anew
+ * empties it, after an open and after each begin, retrace, finish and collect, at the price of an addition; then mpheap_write tells a
+ * page once, at a test of one number for each further write. Pages whose numbers differ by a multiple of MPHEAP_TOLD_PAGES share a
+ * place: of these the one that was told last needs none. */
+enum { MPHEAP_TOLD_PAGES = 4096 };
 typedef struct mpheap_told {
-    uint8_t pages[MPHEAP_MAX_PAGES];
+    uint32_t turn; /* how often it was emptied, above the bits of a page's number */
+    uint32_t pages[MPHEAP_TOLD_PAGES]; /* the page that was told last, and in which turn */
 } mpheap_told;
+#define MPHEAP_TOLD { 0, { 0 } }
 
 static inline void mpheap_tells_anew(mpheap_told *told) {
-    memset(told->pages, 0, sizeof told->pages);
+    told->turn += MPHEAP_MOST_PAGES;
+    if (told->turn == 0) { /* once in 4,096 times */
+        memset(told->pages, 0, sizeof told->pages);
+        told->turn = MPHEAP_MOST_PAGES;
+    }
 }
 
 /* To be called before a write to a word of the mapped heap. An address outside of every heap's addresses is ignored. */
 static inline void mpheap_before_write(mpheap *heap, mpheap_told *told, const void *at) {
     uint64_t address = (uint64_t)(uintptr_t)at, page = (address - MPHEAP_FIRST_ADDRESS) / MPHEAP_PAGE_BYTES;
-    if (page < MPHEAP_MAX_PAGES) {
-        if (told->pages[page] != 0) return;
-        told->pages[page] = 1;
-    }
-    if (page < MPHEAP_MOST_PAGES) mpheap_written(heap, address);
+    uint32_t *last = &told->pages[page % MPHEAP_TOLD_PAGES];
+    if (page >= MPHEAP_MOST_PAGES || *last == (told->turn | (uint32_t)page)) return;
+    *last = told->turn | (uint32_t)page;
+    mpheap_written(heap, address);
 }
 
 /* Writes a word of the mapped heap. */

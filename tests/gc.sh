@@ -1,5 +1,5 @@
 #!/usr/bin/env bash
-# Tests of libmpgc, C programs' gc.h over the proved library for C. It builds what it needs, needs cc, and takes at most two minutes;
+# Tests of libmpgc, C programs' gc.h over the proved library for C. It builds what it needs, needs cc, and takes a few minutes;
 # what needs a package that isn't here is said and skipped. It ends with `N passed, M failed`.
 # MPHEAP_ARCHIVE and MPHEAP_INCLUDE are those of gc/build.
 set -uo pipefail
@@ -29,7 +29,7 @@ skip() { printf 'gc: skipped, for want of %s: %s\n' "$1" "$2"; }
 counted() {
     local what=$1 said status
     shift
-    said=$(timeout 500 "$@" 2>&1)
+    said=$(timeout 1500 "$@" 2>&1)
     status=$?
     if [ $status = 0 ] && [[ $said =~ ([0-9]+)\ passed,\ 0\ failed$ ]]; then
         passed=$((passed + BASH_REMATCH[1]))
@@ -42,24 +42,27 @@ counted() {
 shadow() {
     local what=$1 status
     shift
-    timeout 500 "$@" >"$room/said" 2>&1
+    timeout 1500 "$@" >"$room/said" 2>&1
     status=$?
     [ $status = 0 ] || status="$status: $(tail -n 3 "$room/said")"
     is "$what" 0 "$status"
 }
 
 # planted EDIT: one file of the layer with a fault, under the test that has to notice it: prints `noticed`, or the status. `test:` names
-# the test, and settings; `file:` the file; `old:` a text that stands once there, and `new:` what stands in its place.
+# the test, and settings; `file:` the file; `old:` a text that stands once there, and `new:` what stands in its place; `over: checking`
+# that the layer stands over the core that checks what is owed.
 planted() {
-    local name file test status words=() setting=()
+    local name file over test status words=() setting=()
     name=$(basename "$1" .edit)
     file=$(sed -n 's/^file: //p' "$1")
+    over=$(sed -n 's/^over: //p' "$1")
     read -ra setting <<<"$(sed -n 's/^test: //p' "$1")"
     test=${setting[0]}
     case $test in
         shadow) words=(3 300000) ;;
         threads) words=(3 2) ;;
         world) words=("$room/loaded_local.so") ;;
+        collector) words=(2) ;;
     esac
     if ! awk -v "old=$(sed -n 's/^old: //p' "$1" | sed 's/\\/\\\\/g')" -v "new=$(sed -n 's/^new: //p' "$1" | sed 's/\\/\\\\/g')" '
         { at = index($0, old) }
@@ -70,8 +73,8 @@ planted() {
         return
     fi
     cc -std=c11 -O1 -w -fvisibility=hidden "-I$top/include/mpgc" "-I$include" "-I$top/gc" "-I$top/gc/names" "$room/$name.c" \
-        "$top/tests/gc/$test.c" "$room"/syscalls*.o "$room/libmpgc.a" -pthread -o "$room/planted_$name" 2>&1 || return
-    { timeout 300 env "${setting[@]:1}" "$room/planted_$name" "${words[@]}" >"$room/said_$name" 2>&1; } 2>>"$room/said_$name"
+        "$top/tests/gc/$test.c" "$room"/syscalls*.o "$room/$over/libmpgc.a" -pthread -o "$room/planted_$name" 2>&1 || return
+    { timeout 1500 env "${setting[@]:1}" "$room/planted_$name" "${words[@]}" >"$room/said_$name" 2>&1; } 2>>"$room/said_$name"
     status=$?
     case $status in
         0 | 124) echo "status $status" ;;
@@ -152,7 +155,7 @@ for file in "$top"/gc/*.c "$top"/gc/names/*.c "$top"/gc/kernel/*.c; do
 done
 nm --defined-only "$room"/others/*.o | awk 'NF == 3 && $2 ~ /[TDBRC]/ {print $3}' | sort -u >"$room/theirs"
 is "what the audited files ask" \
-    "GC_dont_gc GC_gc_no GC_get_abort_func GC_is_incremental_mode GC_non_gc_bytes GC_on_heap_resize GC_size pthread_sigmask" \
+    "GC_dont_gc GC_gc_no GC_get_abort_func GC_is_incremental_mode GC_non_gc_bytes GC_on_heap_resize GC_size" \
     "$(nm -u "$room"/audited/*.o | awk 'NF == 2 {print $2}' | sort -u | comm -12 - "$room/theirs" | comm -23 - "$room/front" | paste -sd ' ')"
 # answered LINE: whether the compiler takes the line in a file of names.
 answered() {
@@ -180,7 +183,8 @@ is "lines of names" "$(code "$top"/gc/names/*)" "$(named "$top/docs/PROGRAMS.md"
 is "lines of wrapped functions" "$(code "$top"/gc/kernel/*)" "$(named "$top/docs/PROGRAMS.md" '\*\*wrapped functions of the C library\*\*,')"
 
 # Each function, each place of roots, and what stands round the barrier.
-for test in functions settings macros limits links finalizers kinds roots barrier kernel signals process shadow threads world registering; do
+for test in functions settings macros limits links leaks unmapped finalizers kinds roots barrier kernel signals process shadow threads world registering \
+    collector; do
     "${c[@]}" "$top/tests/gc/$test.c" "-L$room" -lmpgc "-Wl,-rpath,$room" -pthread -o "$room/$test" 2>"$room/said"
     is "$test is built" "" "$(cat "$room/said")"
 done
@@ -192,7 +196,8 @@ counted macros "$room/macros"
 counted limits "$room/limits"
 counted links "$room/links"
 counted "links, in small steps" env GC_ENABLE_INCREMENTAL=1 "$room/links"
-for test in finalizers kinds registering; do
+counted leaks "$room/leaks"
+for test in unmapped finalizers kinds registering; do
     counted "$test" "$room/$test"
     counted "$test, in small steps" env INCREMENTAL=1 "$room/$test"
 done
@@ -232,7 +237,7 @@ for test in barrier kernel signals; do
     fi
 done
 if [ -e /usr/include/gc/gc_mark.h ]; then
-    for test in functions settings macros links finalizers kinds registering; do
+    for test in functions settings macros links leaks unmapped finalizers kinds registering; do
         cc -std=c11 -O1 -w -DOTHER "$top/tests/gc/$test.c" -lgc -o "$room/${test}_bdw"
         counted "$test, over bdwgc" "$room/${test}_bdw"
     done
@@ -240,14 +245,33 @@ else
     skip libgc-dev "the functions, settings, links, finalizers, kinds and threads over bdwgc"
 fi
 
+# The collector's own thread: what it has to stand, and the tests above that have something to do for it.
+counted collector "$room/collector" 1
+"${c[@]}" -fPIC "-I$include" -c "$top/tests/gc/checking_core.c" -o "$room/checking_core.o" 2>"$room/said"
+is "a core that checks what is owed is built" "" "$(cat "$room/said")"
+ar rcs "$room/checking_core.a" "$room/checking_core.o"
+MPHEAP_ARCHIVE=$room/checking_core.a build "$room/checking"
+counted "collector, over a core that checks what is owed" env "LD_LIBRARY_PATH=$room/checking" "$room/collector" 1
+for test in functions settings links finalizers kinds registering roots barrier kernel; do
+    counted "$test, beside the collector's thread" env GC_COLLECTOR_THREAD=1 "$room/$test"
+done
+counted "world, beside the collector's thread" env GC_COLLECTOR_THREAD=1 "$room/world" "$room/loaded_local.so"
+if command -v objdump >"$room/said"; then
+    "$top/tests/gc/loads.sh" "${MPHEAP_ARCHIVE:-$room/libmpheap.a}" >"$room/said" 2>&1
+    is "each word of the heap is read by one load" 0 "$?"
+else
+    skip objdump "how the library's code reads words of the heap"
+fi
+
 # Threads, each with lists and a shadow of them; some seconds, or as many as GC_SECONDS says.
-for setting in FULL INCREMENTAL; do
+for setting in FULL INCREMENTAL GC_COLLECTOR_THREAD; do
     shadow "threads, $setting" env $setting=1 "$room/threads" 6 "${GC_SECONDS:-5}"
 done
 
 # A million random operations, with a shadow of all.
 shadow shadow env FULL=1 "$room/shadow" 1 1000000
 shadow "shadow, in small steps" env INCREMENTAL=1 "$room/shadow" 2 1000000
+shadow "shadow, beside the collector's thread" env GC_COLLECTOR_THREAD=1 "$room/shadow" 3 300000
 
 # Faults of the layer, each of which a test has to notice.
 for file in syscalls syscalls_more syscalls_checked syscalls_threads; do

@@ -9,7 +9,7 @@
 enum { PAGES = 1024, OBJECTS = 20000, TIMES = 1000000, AT = 0, WORD = 1, NEW = 2 };
 
 static mpheap heap = MPHEAP_CLOSED;
-static mpheap_told told;
+static mpheap_told told = MPHEAP_TOLD;
 static uint8_t me;
 static uint64_t first, sum;
 

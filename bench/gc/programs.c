@@ -12,15 +12,18 @@
 #include <time.h>
 #include "gc.h"
 
+#ifndef CLOCK
+#define CLOCK CLOCK_PROCESS_CPUTIME_ID /* of the processor: others on the machine don't count */
+#endif
 static double now(void)
 {
     struct timespec time;
-    clock_gettime(CLOCK_PROCESS_CPUTIME_ID, &time); /* of the processor: others on the machine don't count */
+    clock_gettime(CLOCK, &time);
     return (double)time.tv_sec * 1e6 + (double)time.tv_nsec / 1e3;
 }
 
-static size_t peak;
-static double longest;
+static _Thread_local size_t peak;
+static _Thread_local double longest;
 
 #ifdef STOPS
 static void *timed(void *(*request)(size_t), size_t bytes)
@@ -38,7 +41,7 @@ static void *timed(void *(*request)(size_t), size_t bytes)
 #define ASK_ATOMIC(n) GC_malloc_atomic(n)
 #endif
 
-static uint64_t state = 88172645463325252ull;
+static _Thread_local uint64_t state = 88172645463325252ull;
 static uint64_t next_random(void)
 {
     state ^= state << 13;

@@ -1,16 +1,26 @@
-// The names of requests with the caller's place. The place is not kept, and nothing is checked at an object's ends. Those that free are
-// in requests.c.
-#include "../front.h"
+// The names of requests with the caller's place, which is kept where leaks are looked for. Nothing is checked at an object's ends. Those that
+// free are in requests.c.
+#include "awaited.h"
+#include <string.h>
 
-void *GC_debug_malloc(size_t bytes, ...) { return GC_malloc(bytes); }
-void *GC_debug_malloc_atomic(size_t bytes, ...) { return GC_malloc_atomic(bytes); }
-void *GC_debug_malloc_uncollectable(size_t bytes, ...) { return GC_malloc_uncollectable(bytes); }
-void *GC_debug_malloc_atomic_uncollectable(size_t bytes, ...) { return GC_malloc_atomic_uncollectable(bytes); }
-void *GC_debug_malloc_ignore_off_page(size_t bytes, ...) { return GC_malloc(bytes); }
-void *GC_debug_malloc_atomic_ignore_off_page(size_t bytes, ...) { return GC_malloc_atomic(bytes); }
-void *GC_debug_malloc_stubborn(size_t bytes, ...) { return GC_malloc(bytes); }
-char *GC_debug_strdup(const char *text, ...) { return GC_strdup(text); }
-char *GC_debug_strndup(const char *text, size_t most, ...) { return GC_strndup(text, most); }
+#define DEBUGS(answer, name, words, bytes, request) \
+    answer name words \
+    { \
+        va_list where; \
+        va_start(where, last); \
+        answer object = mpgc_note_place(request, bytes, where); \
+        va_end(where); \
+        return object; \
+    }
+DEBUGS(void *, GC_debug_malloc, (size_t last, ...), last, GC_malloc(last))
+DEBUGS(void *, GC_debug_malloc_atomic, (size_t last, ...), last, GC_malloc_atomic(last))
+DEBUGS(void *, GC_debug_malloc_uncollectable, (size_t last, ...), last, GC_malloc_uncollectable(last))
+DEBUGS(void *, GC_debug_malloc_atomic_uncollectable, (size_t last, ...), last, GC_malloc_atomic_uncollectable(last))
+DEBUGS(void *, GC_debug_malloc_ignore_off_page, (size_t last, ...), last, GC_malloc(last))
+DEBUGS(void *, GC_debug_malloc_atomic_ignore_off_page, (size_t last, ...), last, GC_malloc_atomic(last))
+DEBUGS(void *, GC_debug_malloc_stubborn, (size_t last, ...), last, GC_malloc(last))
+DEBUGS(char *, GC_debug_strdup, (const char *last, ...), last ? strlen(last) + 1 : 0, GC_strdup(last))
+DEBUGS(char *, GC_debug_strndup, (const char *text, size_t last, ...), last + 1, GC_strndup(text, last))
 void *GC_debug_malloc_replacement(size_t bytes) { return GC_malloc(bytes); }
 void GC_debug_change_stubborn(const void *object) { (void)object; }
 void GC_debug_end_stubborn_change(const void *object) { (void)object; }

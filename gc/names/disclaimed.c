@@ -16,7 +16,7 @@ bool mpgc_has_disclaimed(void) { return count > 0; }
 // An object of this kind was made.
 void *mpgc_note_disclaimed(void *object, int kind)
 {
-    if (!object || kind < 0 || kind >= KINDS || !of_kind[kind]) return object;
+    if (!object || kind < 0 || kind >= KINDS || !of_kind[kind] || GC_find_leak) return object;
     GC_alloc_lock();
     struct object *larger = count < room ? all : realloc(all, (2 * room + 64) * sizeof *all);
     if (larger && count == room) room = 2 * room + 64;

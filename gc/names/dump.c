@@ -26,7 +26,7 @@ static char letter(size_t page, struct sum here)
 {
     uintptr_t base, start = FIRST + page * PAGE;
     size_t words;
-    if (mpgc_kind_at(start) == FRESH) return '.';
+    if (mpgc_kind_at(start) == FRESH || mpgc_kind_at(start) == GIVEN_BACK) return '.';
     bool is_inner = here.objects == 0 && mpgc_find(start, &base, &words);
     if (here.objects == 0 && !is_inner) return '-';
     bool is_full = is_inner || here.words > PAGE / WORD / 2;
@@ -36,10 +36,10 @@ static char letter(size_t page, struct sum here)
 
 void GC_dump_regions(void)
 {
-    struct sum sums[3] = { { 0, 0 }, { 0, 0 }, { 0, 0 } };
+    struct sum sums[4] = { { 0, 0 }, { 0, 0 }, { 0, 0 }, { 0, 0 } };
     GC_init();
-    size_t pages = GC_get_heap_size() / PAGE;
-    printf("Pages (o ordinary objects, a pointer-free ones, capitals where more than half full, - empty, . never used):\n");
+    size_t pages = mpgc_pages();
+    printf("Pages (o ordinary objects, a pointer-free ones, capitals where more than half full, - empty, . never used or given back):\n");
     for (size_t page = 0; page < pages; page++) {
         struct sum here = add_page(page, &sums[mpgc_kind_at(FIRST + page * PAGE)]);
         putchar(letter(page, here));

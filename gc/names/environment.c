@@ -1,5 +1,5 @@
 // What the environment says, and how large the heap becomes.
-#include "../front.h"
+#include "awaited.h"
 #include <stdio.h>
 #include <stdlib.h>
 
@@ -23,8 +23,9 @@ static void print_figures(void)
     fprintf(stderr, "mpgc: %lu collections: %lu full, the longest %.0f us; %lu cycles, their longest end %.0f us, %lu faults, "
             "%lu pages read again; %zu pages, %zu bytes asked for\n", (unsigned long)GC_gc_no, all->full, all->longest_full, all->cycles,
             all->longest_cycle_end, all->faults, all->retraces, GC_get_heap_size() / PAGE, GC_get_total_bytes());
-    if (all->stops) fprintf(stderr, "mpgc: %lu stops of other threads, %.0f us each until the last one stood, at most %.0f us\n", all->stops,
-                            all->stop_time / (double)all->stops, all->longest_stop);
+    if (all->stops) fprintf(stderr, "mpgc: %lu stops of other threads, %.0f us each until the last one stood, at most %.0f us; "
+                            "at most %.0f us until they went on\n", all->stops, all->stop_time / (double)all->stops, all->longest_stop,
+                            all->longest_standing);
 }
 
 // The heap has just been opened.
@@ -34,14 +35,17 @@ void mpgc_read_environment(void)
     if (most) GC_set_max_heap_size(most);
     if (least) GC_expand_hp(least);
     GC_free_space_divisor = bytes_of("GC_FREE_SPACE_DIVISOR", GC_free_space_divisor);
+    mpgc_read_unmapping();
     if (getenv("GC_DONT_GC")) GC_dont_gc = 1;
     if (getenv("GC_FIND_LEAK")) GC_set_find_leak(1);
+    if (GC_find_leak) mpgc_look_at_exit();
     if (getenv("GC_PRINT_STATS")) atexit(print_figures);
     mpgc_set_budget();
     if (getenv("GC_ENABLE_INCREMENTAL")) GC_enable_incremental();
+    if (getenv("GC_COLLECTOR_THREAD")) GC_enable_collector_thread();
 }
 
-// Before the first request this says how large the heap may become; later how far it may grow. A heap never shrinks.
+// Before the first request this says how large the heap may become; later how far it may grow. It never has fewer pages again, but free ones take no memory.
 void GC_set_max_heap_size(GC_word bytes)
 {
     size_t pages = pages_of(bytes);
@@ -51,7 +55,7 @@ void GC_set_max_heap_size(GC_word bytes)
 int GC_expand_hp(size_t bytes)
 {
     GC_init();
-    return mpgc_grow(GC_get_heap_size() / PAGE + pages_of(bytes));
+    return mpgc_grow(mpgc_pages() + pages_of(bytes));
 }
 
 void GC_deinit(void) { }

@@ -7,10 +7,13 @@ struct figures mpgc_figures = { .limit = MAX_PAGES };
 GC_word GC_gc_no;
 GC_word GC_non_gc_bytes;
 
+#ifndef MPGC_CLOCK
+#define MPGC_CLOCK CLOCK_MONOTONIC  // bench/collector takes the thread's own time
+#endif
 double mpgc_now(void)
 {
     struct timespec time;
-    clock_gettime(CLOCK_MONOTONIC, &time);
+    clock_gettime(MPGC_CLOCK, &time);
     return (double)time.tv_sec * 1e6 + (double)time.tv_nsec / 1e3;
 }
 
@@ -30,7 +33,14 @@ void mpgc_count_stop(double took)
     if (took > mpgc_figures.longest_stop) mpgc_figures.longest_stop = took;
 }
 
+void mpgc_count_standing(double took)
+{
+    if (took > mpgc_figures.longest_standing) mpgc_figures.longest_standing = took;
+}
+
 GC_word GC_get_gc_no(void) { return GC_gc_no; }
+size_t GC_get_unmapped_bytes(void) { return mpgc_pages_of(GIVEN_BACK) * PAGE; }
+size_t GC_get_heap_size(void) { return mpgc_pages() * PAGE - GC_get_unmapped_bytes(); }
 // Pages on which an object lies, or one that is still to be swept.
 size_t GC_get_memory_use(void) { return mpgc_used_pages() * PAGE; }
 size_t GC_get_free_bytes(void)
@@ -38,7 +48,6 @@ size_t GC_get_free_bytes(void)
     size_t in_use = GC_get_memory_use();
     return in_use < GC_get_heap_size() ? GC_get_heap_size() - in_use : 0;
 }
-size_t GC_get_unmapped_bytes(void) { return 0; }
 size_t GC_get_bytes_since_gc(void)
 {
     size_t left = mpgc_words_in_runs();
@@ -46,21 +55,22 @@ size_t GC_get_bytes_since_gc(void)
 }
 size_t GC_get_expl_freed_bytes_since_gc(void) { return mpgc_figures.freed * WORD; }
 size_t GC_get_total_bytes(void) { return (mpgc_figures.total + mpgc_figures.since - mpgc_words_in_runs()) * WORD; }
-size_t GC_get_obtained_from_os_bytes(void) { return GC_get_heap_size(); }
+size_t GC_get_obtained_from_os_bytes(void) { return mpgc_pages() * PAGE; }
 GC_word GC_get_non_gc_bytes(void) { return GC_non_gc_bytes; }
 void GC_set_non_gc_bytes(GC_word bytes) { GC_non_gc_bytes = bytes; }
 void GC_get_heap_usage_safe(GC_word *heap, GC_word *free_bytes, GC_word *unmapped, GC_word *since, GC_word *total)
 {
     if (heap) *heap = GC_get_heap_size();
     if (free_bytes) *free_bytes = GC_get_free_bytes();
-    if (unmapped) *unmapped = 0;
+    if (unmapped) *unmapped = GC_get_unmapped_bytes();
     if (since) *since = GC_get_bytes_since_gc();
     if (total) *total = GC_get_total_bytes();
 }
 size_t GC_get_prof_stats(struct GC_prof_stats_s *stats, size_t bytes)
 {
     struct GC_prof_stats_s all = {
-        .heapsize_full = GC_get_heap_size(), .free_bytes_full = GC_get_free_bytes(),
+        .heapsize_full = mpgc_pages() * PAGE, .free_bytes_full = GC_get_free_bytes() + GC_get_unmapped_bytes(),
+        .unmapped_bytes = GC_get_unmapped_bytes(),
         .bytes_allocd_since_gc = GC_get_bytes_since_gc(), .allocd_bytes_before_gc = GC_get_total_bytes() - GC_get_bytes_since_gc(),
         .non_gc_bytes = GC_non_gc_bytes, .gc_no = GC_gc_no, .expl_freed_bytes_since_gc = GC_get_expl_freed_bytes_since_gc(),
         .obtained_from_os_bytes = GC_get_obtained_from_os_bytes(),

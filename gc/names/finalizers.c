@@ -23,9 +23,10 @@ static struct all { struct entry **chains, *ready, **ready_end; } *all;
 
 static size_t count, room, ready_count;
 
-// What was found while no other thread runs: so there is room for it before.
-static struct asked { struct entry *entry; bool is_ready; } *asked;
+// What was found while no other thread runs: so there is room for it before. The entries lie all over the heap, and are looked at once.
+static struct asked { struct entry *entry; uintptr_t base; enum order order; bool is_ready; } *asked;
 static size_t asked_room, asked_count;
+enum { AHEAD = 12 };  // so many entries are fetched ahead
 
 static uintptr_t base_of(const struct entry *one) { return ~one->hidden; }
 
@@ -100,6 +101,7 @@ static void set(void *object, GC_finalization_proc function, void *data, GC_fina
     uintptr_t base = 0;
     size_t words;
     GC_init();
+    if (GC_find_leak) return;  // what goes is told, and nothing called
     GC_alloc_lock();
     bool is_object = mpgc_find((uintptr_t)object, &base, &words) && base == (uintptr_t)object;
     struct entry *made = is_object && function ? make(object, function, data, order) : NULL;
@@ -114,44 +116,45 @@ static void set(void *object, GC_finalization_proc function, void *data, GC_fina
 
 // ---- At a cycle's end ----
 
-bool mpgc_has_to_find(void) { return count > 0 || mpgc_has_toggled() || mpgc_has_disclaimed(); }
+bool mpgc_has_to_find(void) { return count > 0 || mpgc_has_toggled() || mpgc_has_disclaimed() || GC_find_leak; }
 
 static void list_unmarked(void)
 {
     asked_count = 0;
-    for (size_t k = 0; k < room; k++)
+    for (size_t k = 0; k < room; k++) {
+        if (k + AHEAD < room) __builtin_prefetch(all->chains[k + AHEAD]);
         for (struct entry *one = all->chains[k]; one; one = one->next)
-            if (!mpgc_is_marked(base_of(one))) asked[asked_count++] = (struct asked){ one, false };
+            if (!mpgc_is_marked(base_of(one))) asked[asked_count++] = (struct asked){ one, base_of(one), one->order, false };
+    }
 }
 
-static void mark_from_inside(const struct entry *one)
+static void mark_from_inside(const struct asked *one)
 {
     uintptr_t base;
     size_t words;
-    if (one->order == NO_ORDER || one->order == UNREACHABLE || !mpgc_find(base_of(one), &base, &words)) return;
+    if (one->order == NO_ORDER || one->order == UNREACHABLE || !mpgc_find(one->base, &base, &words)) return;
     mpgc_mark_from_words(base, words, one->order == NORMAL);
 }
 
 // Of those that are ready only where nothing else leads to them, or of the others: what isn't marked is ready, and marked.
 static void make_ready(bool is_last)
 {
-    for (size_t k = 0; k < asked_count; k++) {
-        const struct entry *one = asked[k].entry;
-        asked[k].is_ready |= (one->order == UNREACHABLE) == is_last && !mpgc_is_marked(base_of(one));
-    }
     for (size_t k = 0; k < asked_count; k++)
-        if (asked[k].is_ready) mpgc_mark_from(base_of(asked[k].entry));
+        asked[k].is_ready |= (asked[k].order == UNREACHABLE) == is_last && !mpgc_is_marked(asked[k].base);
+    for (size_t k = 0; k < asked_count; k++)
+        if (asked[k].is_ready && (asked[k].order == UNREACHABLE) == is_last) mpgc_mark_from(asked[k].base);
     mpgc_mark_all();
 }
 
 void mpgc_find_ready(void)
 {
     list_unmarked();
-    for (size_t k = 0; k < asked_count; k++) mark_from_inside(asked[k].entry);
+    for (size_t k = 0; k < asked_count; k++) mark_from_inside(&asked[k]);
     mpgc_mark_all();
     make_ready(false);
     make_ready(true);
     mpgc_find_disclaimed();
+    mpgc_find_leaks();
 }
 
 static void add_ready(struct entry *one)
@@ -169,8 +172,10 @@ static void add_ready(struct entry *one)
 // The cycle has ended, and nothing was allocated since.
 void mpgc_take_ready(void)
 {
-    for (size_t k = 0; k < asked_count; k++)
-        if (asked[k].is_ready) add_ready(take(place_of(base_of(asked[k].entry))));
+    for (size_t k = 0; k < asked_count; k++) {
+        if (k + AHEAD < asked_count) __builtin_prefetch(asked[k + AHEAD].entry);
+        if (asked[k].is_ready) add_ready(take(place_of(asked[k].base)));
+    }
     asked_count = 0;
     mpgc_drop_toggled();
 }
@@ -179,6 +184,7 @@ void mpgc_take_ready(void)
 void mpgc_forget_finalizer(uintptr_t base)
 {
     mpgc_forget_disclaimed(base);
+    mpgc_forget_place(base);
     struct entry **at = count == 0 ? NULL : place_of(base);
     if (!at || !*at) return;
     (void)take(at);
@@ -216,6 +222,7 @@ static _Thread_local GC_word told_at;
 // After a request or a collection. A finalizer that makes requests doesn't call others; one that was jumped out of isn't running.
 void mpgc_tell_ready(void)
 {
+    mpgc_tell_leaks();
     char here, *outer = calling_at;
     if (ready_count == 0 || mpgc_has_lock() || (outer && &here < outer)) return;
     if (!GC_finalize_on_demand) {

@@ -8,6 +8,8 @@ void *GC_base(void *address)
     return mpgc_find((uintptr_t)address, &base, &words) ? (void *)base : NULL;
 }
 
+int GC_is_heap_ptr(const void *address) { return (uintptr_t)address - FIRST < mpgc_pages() * PAGE; }
+
 size_t GC_size(const void *object)
 {
     uintptr_t base;

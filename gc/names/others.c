@@ -1,8 +1,7 @@
 // What else bdwgc's library exports: marks, walks over the heap, printing, and a few names that this layer can't do, each of which stops
 // with a sentence. No name is left out, so that no call falls through to a libgc that lies in the same process, whose memory would not be
 // read.
-#include "../front.h"
-#include <stdarg.h>
+#include "awaited.h"
 #include <stdio.h>
 
 // Marks. One is set for an object where roots are taken, and else at the next cycle's end by what leads to it. One that was set stays: the
@@ -27,11 +26,9 @@ int GC_is_tmp_root(const void *address)
 }
 
 // All objects that are kept. The caller has the lock, and the function makes no request.
-typedef void (*reachable)(void *object, size_t bytes, void *data);
-SHOWN void GC_enumerate_reachable_objects_inner(reachable tell, void *data);
-void GC_enumerate_reachable_objects_inner(reachable tell, void *data)
+void GC_enumerate_reachable_objects_inner(void (*tell)(void *object, size_t bytes, void *data), void *data)
 {
-    uintptr_t base, end = FIRST + GC_get_heap_size();
+    uintptr_t base, end = FIRST + mpgc_pages() * PAGE;
     size_t words;
     for (uintptr_t at = FIRST; at < end;) {
         bool is_found = mpgc_find(at, &base, &words);

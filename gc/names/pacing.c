@@ -1,56 +1,67 @@
 // When to collect: what a program asks for, and what is due. It answers, and the audited files do.
 //
-// A collection begins when so many words were asked for since the last one: in proportion to what that one left, as bdwgc does by its
-// free space divisor, and not only when there is no room, since small objects would then lie on all pages, and a large request would
-// find no pages in a row. Of ordinary objects what was left is what was marked; of pointer-free ones it is told by pages.
-#include "../front.h"
+// bdwgc's pace, by its free space divisor. So many words have to be asked for between two collections as are in proportion to what the next
+// one will read: twice what is kept of ordinary objects, a quarter of the pointer-free ones, and the roots; half as many before a cycle in
+// small steps. A full collection waits besides until the heap has filled the pages that it may have: where it has grown past them before so
+// much was asked for, it may have a third more. What the program has freed itself wasn't asked for, but for an eighth.
+#include "awaited.h"
 #include <stdlib.h>
 
 enum {
-    USUAL = 1024 * 1024 / WORD,         // words asked for between cycles of a heap that keeps nothing, at the usual divisor
-    USUAL_FULL = 1536 * 1024 / WORD,    // and between full collections, whose marking costs the program more than a larger heap does
-    PART = 4,                           // so many times what was kept is added, in cycles
-    PART_FULL = 8,
-    LARGE = 8 * 1024 * 1024 / WORD,     // of what was kept past this, only so much
-    PART_LARGE = 3,
-    USUAL_DIVISOR = 3,
-    LEAST = 1024,                       // words, however full the heap is
-    BETWEEN_LOOKS = 256,                // words asked for between two looks, where there is something to do
+    LEAST = 1024,         // words, however full the heap is
+    OWN = 30000,          // of bdwgc's own data, which it reads with the roots
+    LEAST_PAGES = 192,    // by which the heap may grow, by the divisor
+    BETWEEN_LOOKS = 256,  // words asked for between two looks, where there is something to do
+    BETWEEN_WAKES = 4096, // and where the collector's thread does it
+    LAG = 2,              // so many budgets are asked for before requests help it
 };
 
-static uint64_t budget;      // words to ask for before the next collection
-static bool is_settled;      // all pages are swept and open
+static uint64_t budget;               // words to ask for before the next collection
+static size_t allowed;                // pages, which the heap fills before it
+static size_t full;                   // the same, or as many as it has already
+static bool is_ripe;                  // so much was asked for
+static bool is_settled;               // all pages are swept and open
 static bool is_incremental;
 
-// Words that the last collection left, of so many pages in use: pointer-free ones count a quarter, as they cost no marking.
-static uint64_t kept_in(size_t used)
+static uint64_t divisor(void) { return GC_free_space_divisor ? GC_free_space_divisor : 1; }
+
+// So many more are allowed where these were too few.
+static size_t more_pages(void)
 {
-    size_t given_free = mpgc_pages_of(POINTER_FREE), given = mpgc_pages_of(ORDINARY) + given_free;
-    uint64_t pointer_free = given == 0 ? 0 : (uint64_t)used * given_free / given * (PAGE / WORD);
-    return mpgc_figures.marked + pointer_free / 4;
+    size_t more = (allowed > LEAST_PAGES ? allowed : LEAST_PAGES) / divisor();
+    return more > 0 ? more : 1;
+}
+
+// Words of pointer-free objects that the last collection left, of so many pages in use.
+static uint64_t pointer_free_in(size_t used)
+{
+    size_t of_them = mpgc_pages_of(POINTER_FREE), all = mpgc_pages_of(ORDINARY) + of_them;
+    return all == 0 ? 0 : (uint64_t)used * of_them / all * (PAGE / WORD);
 }
 
 static void set_budget_for(size_t used)
 {
     uint64_t room = (mpgc_figures.limit > used ? mpgc_figures.limit - used : 0) * (PAGE / WORD);
-    uint64_t divisor = GC_free_space_divisor ? GC_free_space_divisor : 1;
-    uint64_t usual = is_incremental ? USUAL : USUAL_FULL, part = is_incremental ? PART : PART_FULL;
-    uint64_t kept = kept_in(used), small = kept < LARGE ? kept : LARGE;
-    budget = (USUAL_DIVISOR * usual + part * small + PART_LARGE * (kept - small)) / divisor;
     uint64_t most = is_incremental ? room / 2 : room * 3 / 4;  // a cycle needs room while it marks
+    budget = (2 * mpgc_figures.marked + pointer_free_in(used) / 4 + mpgc_figures.roots / WORD + OWN) / divisor();
     if (budget > most) budget = most;
     if (budget < LEAST) budget = LEAST;
+    size_t enough = 2 * (used + used / divisor() + budget / (PAGE / WORD)) + LEAST_PAGES / divisor();
+    if (allowed > enough) allowed = enough;
 }
 
 // After a collection. Of a page that isn't swept half counts. What is still to be given out will be asked for from now on.
 void mpgc_set_budget(void)
 {
     uint64_t left = mpgc_words_in_runs();
-    set_budget_for(mpgc_used_pages() - mpgc_pending_pages() / 2);
+    size_t used = mpgc_used_pages();
+    set_budget_for(used - mpgc_pending_pages() / 2);
+    full = used < allowed ? allowed : used < allowed + allowed / 4 ? used : allowed + allowed / 4;
     mpgc_figures.total += mpgc_figures.since - left;
     mpgc_figures.since = left;
     mpgc_figures.freed = 0;
     mpgc_figures.next = left + BETWEEN_LOOKS;
+    is_ripe = false;
     is_settled = false;
 }
 
@@ -64,7 +75,30 @@ static void settle(void)
 // No collection begins but those that the program asks for.
 bool mpgc_is_off(void) { return GC_dont_gc || GC_get_disable_automatic_collection(); }
 
-static bool is_due(void) { return (mpgc_is_in_cycle() && is_incremental) || mpgc_figures.since >= budget; }
+static uint64_t asked_for(void)
+{
+    uint64_t since = mpgc_figures.since, freed = mpgc_figures.freed;
+    return freed > since - since / 8 ? since / 8 : since - freed;
+}
+
+// Pages mostly keep something, so that one which was taken past those allowed stays, and each collection might wait for one more: so a quarter
+// is the most, and what was asked for tells it too, as far as that is known.
+static bool has_filled_its_pages(void)
+{
+    size_t used = mpgc_used_pages();
+    if (!is_ripe && used > full) {
+        while (allowed < used) allowed += more_pages();
+        full = allowed;
+    }
+    is_ripe = true;
+    return used > full || used >= mpgc_figures.limit / 4 * 3 || mpgc_figures.marked + asked_for() >= allowed * (PAGE / WORD);
+}
+
+static bool is_due(void)
+{
+    if (is_incremental && mpgc_is_in_cycle()) return true;
+    return asked_for() >= budget && (is_incremental || has_filled_its_pages());
+}
 
 static enum due step_or_collection(void)
 {
@@ -73,11 +107,28 @@ static enum due step_or_collection(void)
     return stop && stop() ? NOTHING : STEP;
 }
 
+// The collector has a thread of its own: a request wakes it, or helps it where it lags behind.
+static enum due due_beside(void)
+{
+    bool is_needed = is_due() || (GC_gc_no > 0 && !is_settled), is_late = mpgc_figures.since >= LAG * budget;
+    mpgc_figures.next = !is_needed ? budget : mpgc_figures.since + (is_late ? BETWEEN_LOOKS : BETWEEN_WAKES);
+    if (!is_needed) return NOTHING;
+    return is_late ? step_or_collection() : WAKE;
+}
+
+enum due mpgc_due_to_collector(void)
+{
+    if (mpgc_is_off()) return NOTHING;
+    if (is_due()) return step_or_collection();
+    return is_settled ? NOTHING : TIDYING;
+}
+
 // So many words were asked for that a look is due, or the program asked for one.
 enum due mpgc_due(bool is_asked)
 {
     mpgc_figures.next = mpgc_figures.since + BETWEEN_LOOKS;
     if (mpgc_is_off()) return NOTHING;
+    if (mpgc_is_beside() && !is_asked) return due_beside();
     if (is_due()) return step_or_collection();
     return is_asked ? NOTHING : TIDYING;
 }
@@ -85,25 +136,33 @@ enum due mpgc_due(bool is_asked)
 // Where nothing was left to do, the next look is at the next collection.
 void mpgc_tidied(bool did_some)
 {
-    if (!did_some && !is_settled) {
+    if (!did_some && !is_settled && !mpgc_give_back_some()) {
         settle();
         is_settled = true;
     }
-    if (is_settled) mpgc_figures.next = budget;
+    uint64_t most = budget + mpgc_figures.freed;
+    if (is_settled && most > mpgc_figures.next) mpgc_figures.next = most;
 }
 
-void GC_gcollect(void) { (void)mpgc_collect(mpgc_stop_func()); }
+static int collect(GC_stop_func stop, bool unmaps)
+{
+    bool answer = mpgc_collect(stop);
+    if (answer) mpgc_unmap(unmaps);
+    return answer;
+}
 
-void GC_gcollect_and_unmap(void) { (void)mpgc_collect(NULL); }
+void GC_gcollect(void) { (void)collect(mpgc_stop_func(), false); }
 
-int GC_try_to_collect(GC_stop_func stop) { return mpgc_collect(stop); }
+void GC_gcollect_and_unmap(void) { (void)collect(NULL, true); }
+
+int GC_try_to_collect(GC_stop_func stop) { return collect(stop, false); }
 
 int GC_collect_a_little(void) { return mpgc_collect_a_little(); }
 
 void GC_enable_incremental(void)
 {
     GC_init();
-    if (GC_dont_gc || getenv("GC_DISABLE_INCREMENTAL")) return;
+    if (GC_dont_gc || GC_find_leak || getenv("GC_DISABLE_INCREMENTAL")) return;
     is_incremental = true;
     settle();
     mpgc_figures.next = 0;

@@ -17,7 +17,7 @@ unsigned long GC_time_limit = 50;
 GC_finalizer_notifier_proc GC_finalizer_notifier;
 
 static GC_await_finalize_proc tell_finalize;
-static int is_manual, prior_attempts = 1, rate = 10, unmaps, is_executable;
+static int is_manual, prior_attempts = 1, rate = 10, is_executable;
 static bool is_automatic_off;
 static size_t least_bytes = 1;
 static unsigned long nanoseconds;
@@ -84,8 +84,6 @@ void GC_set_allocd_bytes_per_finalizer(GC_word bytes) { bytes_a_finalizer = byte
 GC_word GC_get_allocd_bytes_per_finalizer(void) { return bytes_a_finalizer; }
 void GC_set_min_bytes_allocd(size_t bytes) { least_bytes = bytes; }
 size_t GC_get_min_bytes_allocd(void) { return least_bytes; }
-void GC_set_force_unmap_on_gcollect(int on) { unmaps = on; }
-int GC_get_force_unmap_on_gcollect(void) { return unmaps; }
 void GC_set_manual_vdb_allowed(int on) { is_manual = on; }
 int GC_get_manual_vdb_allowed(void) { return is_manual; }
 void GC_set_handle_fork(int on) { (void)on; }
@@ -94,12 +92,6 @@ void GC_atfork_parent(void) { }
 void GC_atfork_child(void) { }
 
 // What isn't here is said, and what asks for its absence is right.
-void GC_set_find_leak(int on)
-{
-    if (on) mpgc_stop("GC_set_find_leak: this heap doesn't look for leaks");
-    GC_find_leak = on;
-}
-int GC_get_find_leak(void) { return GC_find_leak; }
 void GC_set_pages_executable(int on)
 {
     if (on) mpgc_stop("GC_set_pages_executable: this heap's pages can't be executed");

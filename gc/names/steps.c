@@ -17,6 +17,7 @@
 enum {
     LEAST = 16, TIMES = 6,          // pages of a batch: at least, and for each that became dirty since the last batch
     BETWEEN = 16,                   // words asked for between two batches
+    BESIDE = 4,                     // batches of a cycle beside the program's threads that leave few pages to its end
     ROOT_ROUNDS = 2, FEW_WORDS = 512,
     WRITTEN = 4, STILL = 64,        // pages for each fault of a cycle, behind which the next begins with open pages, and stays so
 };
@@ -26,6 +27,7 @@ static unsigned root_rounds;
 static size_t batch, left_in_batch;
 static size_t last_dirty;        // pages, at the end of a batch in the step before this one; or all
 static unsigned long faults_before;
+static unsigned batches;
 static bool is_late;             // pages are read again
 static bool is_open;             // cycles begin with open pages
 static uint64_t marked;          // words, since the roots were read
@@ -60,9 +62,17 @@ static enum piece stop_before(enum piece piece)
 static void begin(void)
 {
     root_rounds = 0;
+    batches = 0;
     left_in_batch = 0;
     last_dirty = MAX_PAGES;
     batch = batch / 2 > LEAST ? batch / 2 : LEAST;
+}
+
+// So many dirty pages are left to the cycle's end. Batches that stop nobody may be more.
+static size_t few_of_batch(void)
+{
+    if (!is_late) return 0;
+    return mpgc_is_beside() && batches++ < BESIDE && batch / 2 > LEAST ? LEAST : batch / 2;
 }
 
 // The core reads the lowest dirty page, so that batches of fewer pages than the program writes meanwhile would never come to the upper ones.
@@ -72,7 +82,7 @@ static size_t next_batch(void)
 {
     size_t dirty = mpgc_dirty_pages(), newer = dirty > last_dirty ? dirty - last_dirty : 0;
     if (newer * TIMES > batch) batch = newer * TIMES;
-    size_t few = is_late ? batch / 2 : 0;
+    size_t few = few_of_batch();
     last_dirty = dirty;
     is_late = true;
     if (dirty <= few) return 0;
@@ -112,13 +122,13 @@ static enum piece after_reread(size_t pages)
     if (pages == 0) return roots_or_end();
     left_in_batch -= pages < left_in_batch ? pages : left_in_batch;
     last_dirty -= pages < last_dirty ? pages : last_dirty;
-    return left_in_batch == 0 ? NO_PIECE : MARK;
+    return left_in_batch == 0 || mpgc_is_beside() ? NO_PIECE : MARK;
 }
 
 // What follows on a piece in the same step.
 enum piece mpgc_piece_after(enum piece piece, uint64_t did, uint64_t *left)
 {
-    if (is_late) mpgc_figures.next = mpgc_figures.since + BETWEEN;
+    if (is_late && !mpgc_is_beside()) mpgc_figures.next = mpgc_figures.since + BETWEEN;
     switch (piece) {
     case SWEEP: return did ? NO_PIECE : START;
     case START: faults_before = mpgc_figures.faults; return stop_before(is_open ? BEGIN : CLOSE);

@@ -55,6 +55,7 @@ void mpgc_tell_start(void)
 void mpgc_tell_end(void)
 {
     static const GC_EventType last[] = { GC_EVENT_MARK_END, GC_EVENT_RECLAIM_START, GC_EVENT_RECLAIM_END, GC_EVENT_END };
+    mpgc_age_free_pages();
     mpgc_call_disclaimed();
     tell_events(last, 4);
 }

@@ -6,8 +6,8 @@
  *
  *   - what is here and means the same: everything below that isn't in the other two;
  *   - what can be called and has no effect, since what it sets doesn't exist here: these are marked "no effect";
- *   - what isn't here (to take a mark away, to look for leaks): these are marked "stops". Such a call writes a sentence to standard
- *     error and aborts. No call is silently wrong.
+ *   - what isn't here (to take a mark away): these are marked "stops". Such a call writes a sentence to standard error and aborts. No call
+ *     is silently wrong.
  *
  * Memory comes in pieces of 16 bytes, is aligned to 16, and is all 0. The heap holds at most 4 GiB, or as much as the process may
  * have; past that a request is out of memory. */
@@ -61,7 +61,7 @@ typedef long GC_signed_word;
 
 /* The beginning and the end. GC_init is called by the first request if it wasn't before. It reads from the environment
  * GC_INITIAL_HEAP_SIZE and GC_MAXIMUM_HEAP_SIZE (bytes, with k, M or G behind them), GC_ENABLE_INCREMENTAL,
- * GC_DISABLE_INCREMENTAL, GC_DONT_GC, GC_FREE_SPACE_DIVISOR and GC_PRINT_STATS. GC_INIT does too what the program's macros
+ * GC_DISABLE_INCREMENTAL, GC_COLLECTOR_THREAD, GC_DONT_GC, GC_FREE_SPACE_DIVISOR and GC_PRINT_STATS. GC_INIT does too what the program's macros
  * of these names say: GC_INITIAL_HEAP_SIZE, GC_MAXIMUM_HEAP_SIZE, GC_FREE_SPACE_DIVISOR (numbers), GC_DONT_GC and
  * GC_IGNORE_WARN. Those that set what has no effect here have none. */
 #ifdef GC_DONT_GC
@@ -131,6 +131,7 @@ GC_API void GC_set_stop_func(GC_stop_func stop);
 GC_API GC_stop_func GC_get_stop_func(void);
 GC_API int GC_collect_a_little(void);
 GC_API void GC_enable_incremental(void);
+GC_API void GC_enable_collector_thread(void); /* not bdwgc's: incremental mode, whose steps a thread of the collector's own makes */
 GC_API int GC_is_incremental_mode(void);
 GC_API void GC_start_incremental_collection(void);
 GC_API void GC_disable(void);
@@ -350,9 +351,11 @@ GC_API int GC_get_force_unmap_on_gcollect(void);
 GC_API void GC_set_manual_vdb_allowed(int on);
 GC_API int GC_get_manual_vdb_allowed(void);
 
-/* Kept where they ask for what is so, and stop where they ask for what isn't here. */
+/* Where it is on, each collection tells on standard error of what is reached no more and wasn't freed, which then is gone. */
 GC_API void GC_set_find_leak(int on);
 GC_API int GC_get_find_leak(void);
+
+/* Kept where they ask for what is so, and stop where they ask for what isn't here. */
 GC_API void GC_set_pages_executable(int on);
 GC_API int GC_get_pages_executable(void);
 GC_API void GC_set_handle_fork(int on); /* no effect: a child of fork has the heap as it was */
@@ -382,12 +385,8 @@ GC_API GC_oom_func GC_oom_fn;
 GC_API GC_on_heap_resize_proc GC_on_heap_resize;
 GC_API GC_finalizer_notifier_proc GC_finalizer_notifier;
 
-/* Requests with the caller's place, which is not kept: nothing is checked at its ends. */
-#ifdef GC_ADD_CALLER
-#define GC_EXTRAS ((GC_word)0), __FILE__, __LINE__
-#else
+/* Requests with the caller's place, which is kept where leaks are looked for. Nothing is checked at an object's ends. */
 #define GC_EXTRAS __FILE__, __LINE__
-#endif
 GC_API void *GC_debug_malloc(size_t bytes, ...);
 GC_API void *GC_debug_malloc_atomic(size_t bytes, ...);
 GC_API void *GC_debug_malloc_uncollectable(size_t bytes, ...);
@@ -405,6 +404,18 @@ GC_API void GC_debug_change_stubborn(const void *object);
 GC_API void GC_debug_end_stubborn_change(const void *object);
 GC_API void GC_debug_ptr_store_and_dirty(void *at, const void *word);
 
+#ifdef GC_DEBUG
+#define GC_MALLOC(n) GC_debug_malloc(n, GC_EXTRAS)
+#define GC_MALLOC_ATOMIC(n) GC_debug_malloc_atomic(n, GC_EXTRAS)
+#define GC_MALLOC_UNCOLLECTABLE(n) GC_debug_malloc_uncollectable(n, GC_EXTRAS)
+#define GC_MALLOC_ATOMIC_UNCOLLECTABLE(n) GC_debug_malloc_atomic_uncollectable(n, GC_EXTRAS)
+#define GC_MALLOC_IGNORE_OFF_PAGE(n) GC_debug_malloc_ignore_off_page(n, GC_EXTRAS)
+#define GC_MALLOC_ATOMIC_IGNORE_OFF_PAGE(n) GC_debug_malloc_atomic_ignore_off_page(n, GC_EXTRAS)
+#define GC_MALLOC_STUBBORN(n) GC_debug_malloc_stubborn(n, GC_EXTRAS)
+#define GC_REALLOC(old, n) GC_debug_realloc(old, n, GC_EXTRAS)
+#define GC_STRDUP(s) GC_debug_strdup(s, GC_EXTRAS)
+#define GC_STRNDUP(s, n) GC_debug_strndup(s, n, GC_EXTRAS)
+#else
 #define GC_MALLOC(n) GC_malloc(n)
 #define GC_MALLOC_ATOMIC(n) GC_malloc_atomic(n)
 #define GC_MALLOC_UNCOLLECTABLE(n) GC_malloc_uncollectable(n)
@@ -415,6 +426,7 @@ GC_API void GC_debug_ptr_store_and_dirty(void *at, const void *word);
 #define GC_REALLOC(old, n) GC_realloc(old, n)
 #define GC_STRDUP(s) GC_strdup(s)
 #define GC_STRNDUP(s, n) GC_strndup(s, n)
+#endif
 #define GC_WCSDUP(s) GC_wcsdup(s)
 #define GC_FREE(p) GC_free(p)
 #define GC_NEW(t) ((t *)GC_MALLOC(sizeof(t)))

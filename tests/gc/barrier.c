@@ -6,6 +6,7 @@
 #include <setjmp.h>
 #include <signal.h>
 #include <stdint.h>
+#include <sys/syscall.h>
 #include "check.h"
 #include "cycle.h"
 
@@ -117,6 +118,32 @@ static int second_goes_on(void)
     in_thread(asks);
     end();
     return ordinary[300][0] == 1 ? 0 : 1;
+}
+#endif
+
+#ifndef WITHOUT_SYSCALLS
+/* A fault on a page that another thread has opened before its handler came: what the kernel tells then is sent, behind a write that faulted
+ * so. It is nobody else's. */
+static volatile int heard;
+static void hears(int number)
+{
+    (void)number;
+    heard++;
+}
+static int another_opened_it(void)
+{
+    struct sigaction plain = { .sa_handler = hears };
+    siginfo_t fault = { .si_signo = SIGSEGV, .si_code = SEGV_ACCERR };
+    in_thread(asks);
+    begin();
+    sigaction(SIGSEGV, &plain, NULL);
+    for (int k = 0; k < COUNT; k++) {
+        ordinary[k][0] = 1;
+        fault.si_addr = ordinary[k];
+        if (syscall(SYS_rt_tgsigqueueinfo, getpid(), syscall(SYS_gettid), SIGSEGV, &fault) != 0) return 2;
+    }
+    end();
+    return heard == 0 ? 0 : 1;
 }
 #endif
 
@@ -310,6 +337,84 @@ static void hidden_pointers(void)
     chain_start = chain_end = newest = NULL;
 }
 
+/* Many hidden pointers at once: each node of a chain names an object of its own. When a cycle has read the roots, static data take them from
+ * the nodes, so that these pages are open and nothing else names them; and behind so many steps, whatever those were, nodes or new objects
+ * get them. So wherever pages are read again, or the core has written to them, the next to write to them is the program. */
+enum { SECRETS = 200, PAGE_BYTES = 4096 };
+static void *volatile taken[SECRETS];
+static void **volatile made[SECRETS];
+static GC_word secrets[SECRETS];
+
+/* Between any two nodes a cell is free. */
+static __attribute__((noinline)) void make_secrets(void)
+{
+    void **last = NULL;
+    chain_start = chain_end = newest = NULL;
+    for (int k = 0; k < SECRETS; k++) {
+        void **one = GC_malloc(200);
+        made[k] = GC_malloc(200);
+        one[5] = GC_malloc_atomic(90);
+        secrets[k] = GC_HIDE_POINTER(one[5]);
+        if (last)
+            last[0] = one;
+        else
+            chain_start = one;
+        last = one;
+    }
+    for (int k = 0; k < SECRETS; k++) made[k] = NULL;
+}
+
+/* Of all nodes, or of those on every other page. */
+static __attribute__((noinline)) void take_secrets(int each)
+{
+    void **one = chain_start;
+    for (int k = 0; k < SECRETS; k++, one = one[0]) {
+        if ((GC_word)one / PAGE_BYTES % (GC_word)each != 0) continue;
+        taken[k] = one[5];
+        one[5] = NULL;
+    }
+}
+
+static __attribute__((noinline)) void give_secrets(int to_new)
+{
+    void **one = chain_start;
+    for (int k = 0; k < SECRETS; k++, one = one[0]) {
+        if (!taken[k]) continue;
+        void **to = one;
+        if (to_new) to = made[k] = GC_malloc(200);
+        to[5] = taken[k];
+        taken[k] = NULL;
+    }
+}
+
+/* Answers whether the cycle still marked behind so many steps. */
+static int go_secrets(int steps, int each, int to_new)
+{
+    int goes_on = 1, kept = 0;
+    make_secrets();
+    clear_stack();
+    GC_gcollect();
+    clear_stack();
+    GC_start_incremental_collection();
+    take_secrets(each);
+    clear_stack();
+    for (int k = 0; k < steps && goes_on; k++) goes_on = GC_collect_a_little();
+    give_secrets(to_new);
+    clear_stack();
+    end();
+    for (int k = 0; k < SECRETS; k++) kept += GC_base(GC_REVEAL_POINTER(secrets[k])) == GC_REVEAL_POINTER(secrets[k]);
+    CHECK(kept == SECRETS);
+    for (int k = 0; k < SECRETS; k++) made[k] = NULL;
+    return goes_on;
+}
+
+static void many_hidden_pointers(void)
+{
+    for (int way = 0; way < 4; way++)
+        for (int steps = 0; steps < 40 && go_secrets(steps, 1 + way % 2, way / 2); steps++) continue;
+    chain_start = NULL;
+}
+
 static void children(void)
 {
     begin();
@@ -323,6 +428,7 @@ int main(void)
     GC_INIT();
     GC_enable_incremental();
     hidden_pointers();
+    many_hidden_pointers();
     foreign_faults();
     keeps_errno();
 #ifdef WITHOUT_SYSCALLS
@@ -330,6 +436,7 @@ int main(void)
     CHECK(stops_with(second_writes, "nobody told of"));
 #else
     CHECK(status_of(second_goes_on) == 0);
+    CHECK(status_of(another_opened_it) == 0);
 #endif
     CHECK(stops_with(on_other_stack, "on another stack"));
     handlers_write();

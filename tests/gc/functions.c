@@ -403,7 +403,6 @@ static void second_free(void)
     GC_free(p);
 }
 static void bad_realloc(void) { keepers[0] = GC_realloc((char *)GC_malloc(64) + 8, 100); }
-static void with_leaks(void) { GC_set_find_leak(1); }
 static void other_objects(void) { GC_same_obj(GC_malloc(20), GC_malloc(20)); }
 extern void GC_clear_mark_bit(void);
 
@@ -412,7 +411,6 @@ static NOINLINE void stops(void)
     CHECK(stops_with(bad_free, "GC_free of what isn't the beginning"));
     CHECK(stops_with(second_free, "GC_free of what isn't the beginning"));
     CHECK(stops_with(bad_realloc, "GC_realloc of what isn't the beginning"));
-    CHECK(stops_with(with_leaks, "GC_set_find_leak"));
     CHECK(stops_with(other_objects, "GC_same_obj"));
     CHECK(stops_with(GC_clear_mark_bit, "no mark can be taken away"));
     CHECK(GC_thread_is_registered() && GC_register_my_thread(NULL) == GC_DUPLICATE);

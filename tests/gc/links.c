@@ -144,6 +144,42 @@ static NOINLINE void fields(void)
     collects();
 }
 
+#ifndef OTHER
+/* The words lie in objects that were freed, whose cells are the heap's own then. What comes to lie in them is there once. */
+enum { HOLDERS = 60, AMONG = 9 };
+static uint64_t *among[HOLDERS * AMONG], *since[HOLDERS * AMONG];
+static NOINLINE void free_holders(void)
+{
+    for (int k = 0; k < HOLDERS * AMONG; k++) {
+        among[k] = GC_malloc_atomic(100);
+        memset(among[k], 0x5a, 100);
+    }
+    for (int k = 0; k < HOLDERS * AMONG; k += AMONG / 2) {
+        for (int word = 0; word < 3; word++)
+            CHECK(GC_general_register_disappearing_link((void **)(void *)&among[k][word], GC_malloc(40)) == GC_SUCCESS);
+        GC_free(among[k]);
+        among[k] = NULL;
+    }
+}
+static NOINLINE void words_that_were_freed(void)
+{
+    int is_right = 1;
+    free_holders();
+    collects();
+    for (int k = 0; k < HOLDERS * AMONG; k++) {
+        since[k] = GC_malloc_atomic(100);
+        for (int word = 0; word < 12; word++) since[k][word] = (uint64_t)k;
+    }
+    for (int k = 0; k < HOLDERS * AMONG; k++) {
+        for (int word = 0; word < 12; word++) is_right &= since[k][word] == (uint64_t)k;
+        for (int word = 0; among[k] && word < 12; word++) is_right &= among[k][word] == 0x5a5a5a5a5a5a5a5a;
+    }
+    CHECK(is_right);
+    memset(among, 0, sizeof among);
+    memset(since, 0, sizeof since);
+}
+#endif
+
 /* In small steps a cycle's end clears too. */
 static NOINLINE void in_small_steps(void)
 {
@@ -228,6 +264,9 @@ int main(void)
     registrations();
     words_in_objects();
     words_that_go();
+#ifndef OTHER
+    words_that_were_freed();
+#endif
     fields();
     in_small_steps();
     return check_ends();

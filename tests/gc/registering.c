@@ -105,6 +105,51 @@ static void do_blocking(void)
     GC_pthread_join(thread, NULL);
 }
 
+#ifndef OTHER
+/* In a child the other threads aren't there, and what their stacks alone named goes. */
+enum { HELD = 50 };
+static GC_hidden_pointer held[HELD];
+static void *waits(void *data)
+{
+    sem_post(&at_rest);
+    sem_wait(&may_go);
+    return data;
+}
+static void *holds(void *data)
+{
+    void *volatile objects[HELD];
+    for (int k = 0; k < HELD; k++) {
+        objects[k] = GC_malloc(200);
+        held[k] = GC_HIDE_POINTER(objects[k]);
+    }
+    GC_do_blocking(waits, NULL);
+    for (int k = 0; k < HELD; k++) CHECK(GC_base(objects[k]) == objects[k]);
+    return data;
+}
+static int kept(void)
+{
+    int count = 0;
+    for (int k = 0; k < HELD; k++) count += GC_base(GC_REVEAL_POINTER(held[k])) != NULL;
+    return count;
+}
+static int in_child(void)
+{
+    GC_gcollect();
+    return kept() < 5 ? 0 : 1;
+}
+static void children(void)
+{
+    pthread_t thread;
+    GC_pthread_create(&thread, NULL, holds, NULL);
+    sem_wait(&at_rest);
+    collect();
+    CHECK(kept() == HELD);
+    CHECK(status_of(in_child) == 0);
+    sem_post(&may_go);
+    GC_pthread_join(thread, NULL);
+}
+#endif
+
 /* With the lock, and the stack's base. */
 static int is_locked;
 static void *locked(void *data)
@@ -164,6 +209,9 @@ int main(void)
     GC_allow_register_threads();
     registering();
     do_blocking();
+#ifndef OTHER
+    children();
+#endif
     calls();
     finalizers();
     return check_ends();

@@ -46,7 +46,7 @@ static NOINLINE void figures(void)
     CHECK(GC_get_free_bytes() > 0 && GC_get_free_bytes() <= GC_get_heap_size());
     CHECK(GC_get_unmapped_bytes() == 0 || GC_get_unmapped_bytes() < GC_get_heap_size());
     CHECK(GC_get_memory_use() <= GC_get_heap_size() + 4096);
-    CHECK(GC_get_prof_stats_unsafe(&stats, sizeof stats) == sizeof stats && stats.heapsize_full == GC_get_heap_size());
+    CHECK(GC_get_prof_stats_unsafe(&stats, sizeof stats) == sizeof stats && stats.heapsize_full == GC_get_heap_size() + GC_get_unmapped_bytes());
     memset(&again, 1, sizeof again);
     size_t half = offsetof(struct GC_prof_stats_s, non_gc_bytes);
     CHECK(GC_get_prof_stats(&again, half) == half && again.heapsize_full == stats.heapsize_full);

@@ -138,28 +138,32 @@ static int old_names_are_behind_the_barrier(void)
     return 0;
 }
 
-/* A timer's handler writes at any moment, also where the collector opens pages. */
+/* A timer's handler writes at any moment, also where the collector opens pages. It sets the timer anew, so that the program goes on between
+ * two ticks however slow the machine is. */
 static volatile unsigned ticks;
+static timer_t timer;
+static const struct itimerspec soon = { .it_value = { 0, 50000 } };
 static void on_tick(int number)
 {
     (void)number;
     for (unsigned k = 0; k < 40; k++) *(void **)(void *)(ordinary[(k * 10 + ticks) % COUNT] + 8) = ordinary[(k + ticks) % COUNT];
     ticks++;
+    timer_settime(timer, 0, &soon, NULL);
 }
 static int ticks_are_harmless(void)
 {
     struct sigevent event = { .sigev_notify = SIGEV_SIGNAL, .sigev_signo = SIGUSR2 };
-    struct itimerspec often = { { 0, 50000 }, { 0, 50000 } };
-    timer_t timer;
     begin();
     end();
+    if (timer_create(CLOCK_MONOTONIC, &event, &timer) != 0) return 1;
     signal(SIGUSR2, on_tick);
-    if (timer_create(CLOCK_MONOTONIC, &event, &timer) != 0 || timer_settime(timer, 0, &often, NULL) != 0) return 1;
+    if (timer_settime(timer, 0, &soon, NULL) != 0) return 1;
     for (int round = 0; round < 300 || ticks < 2000; round++) {
         for (int k = 0; k < 200; k++) *(void **)(void *)ordinary[k] = GC_malloc_atomic(100);
         GC_start_incremental_collection();
         while (GC_collect_a_little()) continue;
     }
+    signal(SIGUSR2, SIG_IGN);
     timer_delete(timer);
     return 0;
 }

@@ -281,33 +281,41 @@ static void looking(void)
     CHECK(stop());
 }
 
-/* A process that ends this one if it hangs. */
-static pid_t watch(unsigned seconds)
+/* A process that ends this one if it hangs. It holds no output open, and ends behind it. */
+static pid_t watch(int seconds)
 {
-    pid_t child = fork();
+    pid_t parent = getpid(), child = fork();
     if (child != 0) return child;
-    sleep(seconds);
-    kill(getppid(), SIGKILL);
+    close(1);
+    close(2);
+    for (; seconds > 0 && getppid() == parent; seconds--) sleep(1);
+    if (getppid() == parent) kill(parent, SIGKILL);
     _exit(0);
+}
+
+static void within_time(void (*part)(void))
+{
+    pid_t watcher = watch(150);
+    part();
+    kill(watcher, SIGKILL);
+    waitpid(watcher, NULL, 0);
 }
 
 int main(int count, char **words)
 {
     struct node *mine;
-    pid_t watcher = watch(150);
     path = count > 1 ? words[1] : NULL;
     GC_INIT();
     is_incremental = getenv("INCREMENTAL") != NULL;
     if (is_incremental) GC_enable_incremental();
     mine = list_of(11, 1000);
-    forks();
-    signals();
-    blocked();
-    endings();
-    if (path) loading();
-    looking();
-    reading();
+    within_time(forks);
+    within_time(signals);
+    within_time(blocked);
+    within_time(endings);
+    if (path) within_time(loading);
+    within_time(looking);
+    within_time(reading);
     CHECK(is_list(mine, 11, 1000));
-    kill(watcher, SIGKILL);
     return check_ends();
 }

@@ -1,0 +1,56 @@
+#!/usr/bin/env bash
+# tests/gc/loads.sh ARCHIVE: that the library's code reads a word of the heap by one load of 8 bytes, and once. A word beside writers may be
+# another one a moment later, and a wider load may see parts of two; no proof speaks of the machine's code.
+#
+# The marker tells by one subtraction whether a word lies in the heap's range of addresses: so in its functions each `lea -0x10000000(%W)`
+# where W was loaded last stands behind the load of a word of the heap. That has to be a plain mov into all of W, of an operand that nothing
+# else in the function uses (a second look at the word would); and no function of the marker may load a vector, but from its stack. What lies
+# on the stack, or far behind a pointer, is a field of the marker's own. It ends with how many places there are, of which it has to find some.
+set -euo pipefail
+least=8
+room=$(mktemp -d)
+trap 'rm -rf "$room"' EXIT
+cp "$1" "$room/archive"
+(cd "$room" && ar x archive)
+for part in "$room"/*.o; do objdump -d -C --no-show-raw-insn "$part"; done >"$room/code"
+
+awk -v least=$least '
+    # The text of an operand in memory, or nothing.
+    function memory(text) { return match(text, /-?(0x[0-9a-f]+)?\(%[a-z0-9,%]*\)/) ? substr(text, RSTART, RLENGTH) : "" }
+    function wrong(what) { print name ": " what ": " $0; failed = 1 }
+    /^[0-9a-f]+ <.*>:$/ { ends(); name = $2; is_of_marker = name ~ /marker::/ }
+    function ends(at) {
+        for (at in loaded) if (used[at] != 1) { print name ": " at " is used " used[at] " times"; failed = 1 }
+        split("", loaded); split("", used); split("", from)
+    }
+    !is_of_marker || !/^ +[0-9a-f]+:/ { next }
+    {
+        text = $0
+        sub(/^ +[0-9a-f]+:[ \t]*/, "", text)
+        sub(/ *#.*/, "", text)
+        operation = text
+        sub(/[ \t].*/, "", operation)
+        place = operation ~ /^lea/ ? "" : memory(text)
+        if (place != "") used[place]++
+        into = text ~ /,%[a-z0-9]+$/ ? substr(text, match(text, /%[a-z0-9]+$/)) : ""
+        if (into ~ /%[xyz]mm/ && place != "" && place !~ /%rsp/) wrong("a vector is loaded")
+    }
+    # The word that is looked at.
+    operation == "lea" && text ~ /-0x10000000\(%r[a-z0-9]+\),/ {
+        word = text
+        sub(/.*-0x10000000\(/, "", word)
+        sub(/\).*/, "", word)
+        if (from[word] == "part") wrong("the load before it was none of a whole word")
+        else if (from[word] != "") { loaded[from[word]] = 1; count++ }
+    }
+    # What each register has: of a load that is where it was loaded from.
+    into != "" && operation !~ /^(cmp|test|bt)/ {
+        is_whole = operation == "mov" && into ~ /^%r/ && into !~ /^%r[0-9]+[dwb]$/
+        is_field = place ~ /%rsp/ || place ~ /^0x([4-9a-f][0-9a-f]|[0-9a-f][0-9a-f][0-9a-f]+)\(/
+        from[into] = place == "" || is_field ? "" : is_whole ? place : "part"
+    }
+    END {
+        ends()
+        print count + 0 " places where words are loaded"
+        exit failed || count < least
+    }' "$room/code"
