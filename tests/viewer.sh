@@ -15,12 +15,12 @@ for tool in node "$chromium"; do
     command -v "$tool" >/dev/null || skip "there is no $tool"
 done
 node -e 'process.exit(Number(process.versions.node.split(".")[0]) < 20 ? 1 : 0)' || skip "node $(node --version) is older than 20"
-timeout 60 "$chromium" --headless=new --no-sandbox --disable-gpu --dump-dom about:blank >/dev/null 2>&1 || skip "$chromium doesn't start"
+timeout 180 "$chromium" --headless=new --no-sandbox --disable-gpu --dump-dom about:blank >/dev/null 2>&1 || skip "$chromium doesn't start"
 room=$(mktemp -d)
 child=
 trap '[ -z "$child" ] || kill "$child" 2>/dev/null; wait; rm -rf "$room"' EXIT
 trap 'exit 143' INT TERM HUP
-TMPDIR=$room timeout 600 node "$top/viewer/test.mjs" &
+TMPDIR=$room timeout 1500 node "$top/viewer/test.mjs" &
 child=$!
 wait "$child"
 status=$?

@@ -8,12 +8,12 @@ here=$(dirname "$0")
 [ "$1" = - ] || [ -r "$1" ] || { echo "join.sh: '$1' can't be read" >&2; exit 1; }
 
 # The scripts in the order in which they stand on each other. They share one scope.
-scripts="text pen heap records run view layout legend cells map roots arrows rings scene plot script_list sentence
-    inspector export moving pointer start"
+scripts="text pen heap snapshot records ever writes run view layout legend cells map roots arrows rings scene plot script_list sentence
+    inspector picking export beside moving keys pointer start"
 
 styles() {
     echo '<style>'
-    cat "$here/style.css" "$here/picture.css"
+    cat "$here/style.css" "$here/frame.css" "$here/picture.css"
     echo '</style>'
 }
 

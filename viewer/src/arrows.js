@@ -4,6 +4,7 @@
 const AUTO_ROOTS = 14; // so many arrows of roots are shown by themselves
 const AUTO_WORDS = 40;
 const MOST_WORDS = 4000;
+const MOST_LOOKED = 40000; // so many words are looked at for arrows
 
 // where an arrow to a word ends
 function target(word) {
@@ -38,7 +39,7 @@ function byCurve(anchor, t) {
   const k = Math.max(24, Math.min(90, far * 0.35));
   const isBelow = t.top < anchor.y - 60 && !t.isMap; // the root stands lower than its object: arrive from beneath
   const y = isBelow ? t.bottom + 1 : t.top - 1;
-  const end = `${t.x - (far > 120 ? 26 : 8)} ${y + (isBelow ? 20 : -20)} ${t.x} ${y}`;
+  const end = `${t.x - (far > 120 ? 26 : 8)} ${y + (isBelow ? 16 : -16)} ${t.x} ${y}`;
   return `M${anchor.x + 3.5} ${anchor.y}C${anchor.x + k} ${anchor.y} ${end}`;
 }
 
@@ -47,7 +48,7 @@ function fromWord(s, t) {
   const y = dotY(s.y);
   if (t.isMap) return `M${x} ${y}Q${(x + t.x) / 2} ${y - 20} ${t.x} ${t.top}`;
   if (Math.abs(t.top - s.y) < 2) {
-    const k = Math.min(plan.isBig ? 34 : 46, 14 + Math.abs(t.x - x) * 0.16);
+    const k = Math.min(plan.isBig ? 34 : 22, 14 + Math.abs(t.x - x) * 0.16);
     return `M${x} ${y}C${x} ${s.y - k} ${t.x} ${s.y - k} ${t.x} ${t.top - 1}`;
   }
   const k = Math.min(50, Math.abs(t.top - s.y) * 0.6);
@@ -55,21 +56,36 @@ function fromWord(s, t) {
   return `M${x} ${y}C${x} ${y - k} ${t.x} ${t.bottom + k} ${t.x} ${t.bottom + 1}`;
 }
 
-// the words of kept normal objects that point into something, as [place, word]; null past a bound
+// The words of kept normal objects on shown pages that point into something, as [place, word]; null past a bound, or
+// where looking for them would take long.
 function heapPointers(limit) {
   const found = [];
-  for (const object of heap.objects.values()) {
-    if (object.forgotten || object.kind) continue;
+  let looked = 0;
+  for (const object of shownObjects()) {
+    looked += object.words;
+    if (looked > MOST_LOOKED) return null;
     found.push(...pointersOf(object));
     if (found.length > limit) return null;
   }
   return found;
 }
 
+// the kept normal objects that begin on a page which is shown
+function* shownObjects() {
+  for (const { p, unused } of plan.pages.values()) {
+    if (unused || !heap.cells[p] || heap.atomic[p]) continue;
+    const step = heap.head[p] >= 0 ? PAGE : heap.size[p];
+    for (let place = p * PAGE; place < (p + 1) * PAGE; place += step) {
+      const object = heap.objects.get(place);
+      if (object && !object.forgotten) yield object;
+    }
+  }
+}
+
 function pointersOf(object) {
   const found = [];
   for (let i = object.place; i < object.place + object.words; i++) {
-    if (heap.find(heap.memory[i])) found.push([i, heap.memory[i]]);
+    if (heap.find(heap.plainWord(i))) found.push([i, heap.plainWord(i)]);
   }
   return found;
 }
@@ -83,7 +99,7 @@ class Arrows {
   }
 
   add(look, d) {
-    if (look === 'as') {
+    if (look === 'an' || look === 'af') {
       this.strong += path('casing', d) + path(look, d);
       return;
     }
@@ -119,12 +135,13 @@ function addRootArrows(arrows, mode, focus) {
   const into = new Map(); // how many arrows end at a word
   let n = 0;
   for (const { anchor, object } of shown) {
-    const isStrong = isFocus(object, anchor.key) || (fresh.has(anchor.key) && mode !== 'none');
-    const t = isAll || isStrong ? target(anchor.word) : null;
+    const isFresh = fresh.has(anchor.key) && mode !== 'none';
+    const look = isFocus(object, anchor.key) ? 'af' : isFresh ? 'an' : 'ar';
+    const t = isAll || look !== 'ar' ? target(anchor.word) : null;
     if (!t) continue;
     const same = into.get(anchor.word) || 0;
     into.set(anchor.word, same + 1);
-    arrows.add(isStrong ? 'as' : 'ar', fromRoot(anchor, t, n++, same));
+    arrows.add(look, fromRoot(anchor, t, n++, same));
   }
 }
 
@@ -135,38 +152,33 @@ function pointedAt({ key, word }) {
 
 // Arrows to and from the selected object, and of the words that the line wrote; answers whose they are.
 function addOwnArrows(arrows, focus) {
-  const own = new Map();
-  if (focus && 'place' in focus) {
-    for (const [i, word] of referrers(focus.place)) own.set(i, word);
-    const object = heap.objects.get(focus.place);
-    if (object && !object.forgotten && !object.kind) for (const [i, word] of pointersOf(object)) own.set(i, word);
-  }
+  const own = new Map(); // place of a word -> the look of its arrow
   for (const [i] of run.record.wrote || []) {
     const object = heap.objectOver(i);
-    if (object && !object.kind && !object.forgotten && heap.find(heap.memory[i])) own.set(i, heap.memory[i]);
+    if (object && !object.kind && !object.forgotten && heap.find(heap.plainWord(i))) own.set(i, 'an');
   }
-  for (const [i, word] of own) {
-    const s = spot(i);
-    const t = s && target(word);
-    if (t) arrows.add('as', fromWord(s, t));
+  if (focus && 'place' in focus) {
+    for (const [i] of referrers(focus.place)) own.set(i, 'af');
+    const object = heap.objects.get(focus.place);
+    if (object && !object.forgotten && !object.kind) for (const [i] of pointersOf(object)) own.set(i, 'af');
   }
+  for (const [i, look] of own) addFromWord(arrows, look, i, heap.plainWord(i));
   return own;
 }
 
+function addFromWord(arrows, look, place, word) {
+  const s = spot(place);
+  const t = s && target(word);
+  if (t) arrows.add(look, fromWord(s, t));
+}
+
 function addHeapArrows(arrows, mode, own) {
-  const limit = mode === 'all' ? MOST_WORDS : AUTO_WORDS;
-  const pointers = plan.isMap && mode === 'auto' ? null : heapPointers(limit);
-  for (const [i, word] of pointers || []) {
-    const s = own.has(i) ? null : spot(i);
-    const t = s && target(word);
-    if (t) arrows.add('ah', fromWord(s, t));
+  if (plan.isMap && mode === 'auto') return;
+  for (const [i, word] of heapPointers(mode === 'all' ? MOST_WORDS : AUTO_WORDS) || []) {
+    if (!own.has(i)) addFromWord(arrows, 'ar', i, word);
   }
 }
 
 function addLinks(arrows) {
-  for (const [i, base] of heap.links) {
-    const s = spot(i);
-    const t = s && target(addressOf(base));
-    if (t) arrows.add('al', fromWord(s, t));
-  }
+  for (const [i, base] of heap.links) addFromWord(arrows, 'al', i, addressOf(base));
 }

@@ -12,7 +12,7 @@ function drawPage(at) {
   if (at.unused) return at.hidden ? '' : drawUnused(at);
   const n = heap.cells[at.p];
   const width = perRow(Math.min(cellSize(at.p), PAGE), at.across) * plan.u + 8;
-  const borders = drawHeading(at) + drawBorders(at, width, n);
+  const borders = drawBorders(at, width, n);
   return n ? borders + drawCells(at, width) : borders;
 }
 
@@ -32,22 +32,23 @@ function pageKind(p) {
   return `large, ${grouped(words)} words${part}, ${kind}`;
 }
 
+const TAGS = [['dirty', 'tagd', 'DIRTY'], ['carried', 'tagc', 'CARRIED'], ['pending', 'tagp', 'TO SWEEP']];
+
+// The page's number, its borders by name, and what lies there as far as there is room. It stands above the arrows.
 function drawHeading(at) {
+  if (at.unused) return '';
   const title = 'page ' + at.p;
-  const kind = pageKind(at.p);
   let x = at.x + measure(title, true) + 8;
-  let out = label(at.x, at.y + 12, 'b', title) + label(x, at.y + 12, 'soft', kind);
-  x += measure(kind) + 12;
-  for (const [name, look, text] of [
-    ['dirty', 'tagd', 'DIRTY'],
-    ['carried', 'tagc', 'CARRIED'],
-    ['pending', 'tagp', 'TO SWEEP'],
-  ]) {
+  let out = label(at.x, at.y + 12, 'head b', title);
+  for (const [name, look, text] of TAGS) {
     if (!heap[name].has(at.p)) continue;
-    out += label(x, at.y + 12, look, text);
+    out += label(x, at.y + 12, 'head ' + look, text);
     x += measure(text, true) + 12;
   }
-  return out;
+  const kind = pageKind(at.p);
+  const fits = (text) => x + measure(text) <= at.x + plan.w;
+  const text = [kind, kind.replace(/ cells of (\d+) words/, ' cells of $1'), kind.split(',')[0], ''].find(fits);
+  return out + (text ? label(x, at.y + 12, 'head soft', text) : '');
 }
 
 function drawBorders(at, width, isTaken) {
@@ -117,7 +118,7 @@ function drawBands(drawing, { x, y, w }, object) {
 // the object's number, and its words
 function drawInside(drawing, piece, object) {
   if (object.forgotten) {
-    if (plan.isBig) drawing.text += label(piece.x + 5, piece.y + 12, 'soft', '#' + object.birth);
+    if (plan.isBig) drawing.text += label(piece.x + 5, piece.y + 12, 'onhatch', '#' + object.birth);
     return;
   }
   const isMarked = heap.marked.has(object.place);
@@ -143,7 +144,7 @@ function drawWord(drawing, x, y, word, object, isMarked) {
     drawing.text += label(x + room / 2, y + 34, look + 'mono mid', text);
   };
   if (word === 0) {
-    if (plan.isWide) write((ink || 'soft ') + 'faded ', '0', besideDot);
+    if (plan.isWide) write(ink || 'soft ', '0', besideDot);
   } else if (isInHeap(word) && !object.kind) {
     if (plan.isWide) write(ink, told(word), besideDot);
     drawing[isMarked ? 'dotsOnMarked' : 'dots'] += wordDot(x, y);

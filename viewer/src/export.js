@@ -26,13 +26,6 @@ function pictureStyle() {
   return `${withValues(light)}\n@media (prefers-color-scheme: dark) {\n${withValues({ ...light, ...dark })}\n}`;
 }
 
-// what is drawn in an element, without the definitions that it has of its own
-function contentOf(id) {
-  const copy = $(id).cloneNode(true);
-  for (const defs of copy.querySelectorAll('defs')) defs.remove();
-  return copy.innerHTML;
-}
-
 function pictureTitle() {
   const { title } = run.about;
   const { c, r } = run.record;
@@ -41,9 +34,10 @@ function pictureTitle() {
 
 function picture() {
   return withRootsAtTop(() => {
-    const top = 44;
+    const top = 60;
     const width = plan.width + 24;
-    const height = Math.ceil(top + view.legendHeight + plan.height + 16);
+    const legend = drawLegend(plan.width);
+    const height = Math.ceil(top + legend.height + plan.height + 16);
     const title = pictureTitle();
     const at = (y, content) => `<g transform="translate(12 ${y})">${content}</g>`;
     const said = sentence().slice(0, Math.floor(width / 5.6));
@@ -54,9 +48,9 @@ function picture() {
       `<style>\n${pictureStyle()}\n</style>`,
       DEFS,
       `<rect class="bgfill" width="${width}" height="${height}"/>`,
-      at(0, label(0, 20, 'b', title) + label(0, 36, 'soft', said)),
-      at(top, contentOf('legend')),
-      at(top + view.legendHeight, contentOf('scene')),
+      at(0, label(0, 20, 'b', title) + label(0, 36, 'soft', said) + label(0, 52, 'soft', capital(sourceText()))),
+      at(top, legend.content),
+      at(top + legend.height, $('scene').innerHTML),
       '</svg>\n',
     ].join('\n');
   });

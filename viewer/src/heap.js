@@ -31,7 +31,7 @@ const CHANGES = {
     else heap[name].delete(x);
     if (SETS_OF_PAGES.has(name)) heap.stale.add(x);
     else heap.spoilAt(x);
-    if (name === 'reached') heap.sum.reached += (isIn ? 1 : -1) * heap.wordsAt(x);
+    heap.countMember(name, x, isIn);
     return ['member', name, x, was];
   },
   set(heap, name, set) {
@@ -39,14 +39,14 @@ const CHANGES = {
     heap.spoilAll(name, old);
     heap[name] = new Set(set); // a copy: what a change holds is never changed itself
     heap.spoilAll(name, set);
-    if (name === 'reached') heap.sum.reached = [...set].reduce((sum, x) => sum + heap.wordsAt(x), 0);
+    heap.countSets(name);
     return ['set', name, old];
   },
   word(heap, place, word) {
     const old = heap.word(place);
     if (typeof word === 'string') heap.great.set(place, word);
     else heap.great.delete(place);
-    heap.memory[place] = typeof word === 'string' ? 0 : word;
+    heap.ownPage(pageOf(place))[wordInPage(place)] = typeof word === 'string' ? 0 : word;
     heap.stale.add(pageOf(place));
     return ['word', place, old];
   },
@@ -107,20 +107,36 @@ class Heap {
     this.entries = []; // [place, next word], the top last
     this.current = null;
     for (const name of SETS) this[name] = new Set();
-    this.memory = new Float64Array(this.words); // words below 2^53
+    this.memory = new Array(pages); // page -> its words below 2^53, where one was written
+    this.own = new Set(); // pages of memory that no snapshot shares
     this.great = new Map(); // place -> decimal text of a word of 2^53 and more
     this.cells = new Int32Array(pages); // how many cells or large objects lie on a page
     this.size = new Int32Array(pages); // words of each, where there are some
     this.atomic = new Uint8Array(pages);
     this.head = new Int32Array(pages).fill(-1); // first page of the large object there
     this.awaiting = 0; // how many forgotten objects are still to be swept
-    this.sum = { reached: 0, kept: 0, forgotten: 0 };
+    this.sum = { reached: 0, held: 0, kept: 0, forgotten: 0 }; // words; held are those reached or touched
     this.stale = new Set(); // pages to be drawn again
     this.hasBegun = false; // a record was applied
   }
 
   word(place) {
-    return this.great.get(place) || this.memory[place];
+    return this.great.get(place) || this.plainWord(place);
+  }
+
+  // a word that may point into something: one of 2^53 and more is 0 here
+  plainWord(place) {
+    const page = this.memory[pageOf(place)];
+    return page ? page[wordInPage(place)] : 0;
+  }
+
+  // The words of a page, to be written: a copy where a snapshot has them too.
+  ownPage(p) {
+    if (!this.own.has(p)) {
+      this.memory[p] = this.memory[p] ? this.memory[p].slice() : new Float64Array(PAGE);
+      this.own.add(p);
+    }
+    return this.memory[p];
   }
 
   isInside(word) {
@@ -147,6 +163,24 @@ class Heap {
   wordsAt(place) {
     const object = this.objects.get(place);
     return object ? object.words : 0;
+  }
+
+  // How many words are reached, and how many reached or touched, as a member comes or goes.
+  countMember(name, x, isIn) {
+    if (name !== 'reached' && name !== 'touched') return;
+    const words = (isIn ? 1 : -1) * this.wordsAt(x);
+    if (name === 'reached') this.sum.reached += words;
+    if (!this[name === 'reached' ? 'touched' : 'reached'].has(x)) this.sum.held += words;
+  }
+
+  countSets(name) {
+    if (name !== 'reached' && name !== 'touched') return;
+    const { reached, touched } = this;
+    let words = 0;
+    for (const x of reached) words += this.wordsAt(x);
+    this.sum.reached = words;
+    for (const x of touched) if (!reached.has(x)) words += this.wordsAt(x);
+    this.sum.held = words;
   }
 
   // What is drawn of an object, of a place, or of a set's members has to be drawn again.

@@ -1,28 +1,46 @@
 'use strict';
-// The inspector: what is selected, and else the heap as a whole.
+// The inspector: what is picked, and else the heap as a whole. What leads elsewhere is a button (picking.js).
 
-const infoRow = (name, value) => `<tr><th>${name}</th><td>${value}</td></tr>`;
+const infoRow = (name, value) => `<tr><th scope="row">${name}</th><td>${value}</td></tr>`;
 
 function infoTable(title, rows) {
   return `<h2>${escaped(title)}</h2><table>${rows.map((row) => infoRow(...row)).join('')}</table>`;
 }
 
+// a button that does one of ACTS
+function to(act, arg, text, isChosen) {
+  return `<button class="to${isChosen ? ' chosen' : ''}" data-act="${act}" data-arg="${arg}">${escaped(text)}</button>`;
+}
+
+const toLine = (line) => (line ? to('line', line, `line ${grouped(line)}`) : 'before the first line');
+
+// A button that had the focus keeps it.
 function drawInfo() {
   const focus = view.hovered || view.picked;
   const anchor = focus && focus.key && !('place' in focus) ? anchorOf(focus.key) : null;
   const object = focus && 'place' in focus ? heap.objects.get(focus.place) : null;
-  $('info').innerHTML = anchor ? infoOfRoot(anchor) : object ? infoOfObject(object) : infoOfHeap();
+  const info = $('info');
+  const had = info.contains(document.activeElement) ? document.activeElement.dataset : null;
+  info.innerHTML = anchor ? infoOfRoot(anchor) : object ? infoOfObject(object) : infoOfHeap();
+  if (!had) return;
+  const same = had.act && info.querySelector(`[data-act="${had.act}"][data-arg="${had.arg}"]`);
+  (same || info).focus({ preventScroll: true });
 }
 
-function infoOfRoot({ word, says }) {
-  return infoTable(capital(says), [['word', escaped(word)], ['points into', escaped(pointsInto(word))]]);
+function infoOfRoot({ key, word, says }) {
+  const line = isEntryKey(key) ? 0 : run.writes.last(keyOfRoot(key), run.at);
+  return infoTable(capital(says), [
+    ['word', escaped(word)],
+    ['points into', pointsInto(word)],
+    ...(line ? [['stored by', toLine(line)]] : []),
+  ]);
 }
 
 function pointsInto(word) {
   const object = heap.find(word);
   if (!object) return isInHeap(word) ? `nothing (page ${(word - FIRST) >> 12})` : 'nothing: no address of the heap';
   const bytes = word - addressOf(object.place);
-  return `#${object.birth}, ${bytes ? `${bytes} bytes in` : 'its base'}`;
+  return `${to('pick', object.place, '#' + object.birth)}, ${bytes ? `${bytes} bytes in` : 'its base'}`;
 }
 
 function infoOfHeap() {
@@ -33,9 +51,9 @@ function infoOfHeap() {
   return infoTable(`After line ${grouped(run.at)}`, [
     ['phase', heap.phase ? 'a cycle is marking' : 'idle'],
     ['objects', `${grouped(objects)}, of which ${seen}`],
-    ['words', `${grouped(kept)}, of which ${grouped(reached)} live`],
+    ['words', `${grouped(kept)}, of which ${grouped(reached)} reached`],
     ['collections', grouped(heap.count)],
-  ]) + '<p>Point at a cell or a register; click to keep it.</p>';
+  ]) + '<p>Point at a cell or a register, click to keep it; or press n.</p>';
 }
 
 function infoOfObject(object) {
@@ -45,6 +63,7 @@ function infoOfObject(object) {
     ['size', `${many(object.words, 'word')}, ${object.kind ? 'atomic' : 'normal'}`],
     ...(run.hasCollector ? [['collector', saysKnown(object)]] : []),
     ['truth', saysTruth(object)],
+    ['made by', toLine(run.writes.last(keyOfMade(object.place), run.at))],
     ['from', saysFrom(object)],
     ['words', saysWords(object)],
   ]);
@@ -61,15 +80,21 @@ function saysTruth(object) {
   return { r: 'reached', t: 'touched, not reached: this cycle keeps it', n: neither }[truthOf(object)];
 }
 
-// who points into the object
+// who points into the object, as buttons
 function pointers(object) {
   const from = [];
   for (const [slot, { regs, stack }] of heap.mutators) {
-    regs.forEach((word, n) => heap.find(word) === object && from.push(`r${n} of mutator ${slot}`));
-    stack.forEach((word, n) => heap.find(word) === object && from.push(`stack of mutator ${slot}, word ${n}`));
+    regs.forEach((word, n) => {
+      if (heap.find(word) === object) from.push(to('root', `r${slot}.${n}`, `r${n} of mutator ${slot}`));
+    });
+    stack.forEach((word, n) => {
+      if (heap.find(word) === object) from.push(to('root', `s${slot}.${n}`, `stack of mutator ${slot}, word ${n}`));
+    });
   }
-  heap.globals.forEach((word, n) => heap.find(word) === object && from.push('global ' + n));
-  for (const [i, , holder] of referrers(object.place)) from.push(`#${holder.birth} word ${i - holder.place}`);
+  heap.globals.forEach((word, n) => heap.find(word) === object && from.push(to('root', 'g' + n, 'global ' + n)));
+  for (const [i, , holder] of referrers(object.place)) {
+    from.push(to('word', i, `#${holder.birth} word ${i - holder.place}`));
+  }
   return from;
 }
 
@@ -77,21 +102,25 @@ function saysFrom(object) {
   if (object.forgotten) return '';
   const from = pointers(object);
   if (!from.length) return 'nothing points into it';
-  const shown = escaped(from.slice(0, 10).join('; '));
+  const shown = from.slice(0, 10).join('; ');
   return from.length > 10 ? `${shown}; and ${from.length - 10} more` : shown;
 }
 
-function saysWord(object, word) {
+function saysWord(object, word, place) {
   if (!isInHeap(word)) return escaped(word);
   if (!heap.find(word)) return `${word} (into nothing)`;
-  return object.kind ? `${word} (atomic: points into nothing)` : '&rarr; ' + told(word);
+  if (object.kind) return `${word} (atomic: points into nothing)`;
+  return to('follow', place, `→ ${told(word)}`, view.word === place);
 }
 
+// the words of an object that aren't 0, each with the line that stored it
 function saysWords(object) {
   if (object.forgotten) return '';
   const words = [];
   for (let i = object.place; i < object.place + object.words && words.length < 13; i++) {
-    if (heap.word(i) !== 0) words.push(`${i - object.place}: ${saysWord(object, heap.word(i))}`);
+    if (heap.word(i) === 0) continue;
+    const line = run.writes.last(i, run.at);
+    words.push(`${i - object.place}: ${saysWord(object, heap.word(i), i)} by ${toLine(line)}`);
   }
   if (!words.length) return 'all 0';
   return words.slice(0, 12).join('<br>') + (words.length > 12 ? '<br>..' : '');

@@ -27,11 +27,11 @@ function planRoots(made) {
     made.roots.push({ ...row, y, h });
     y += h;
   };
-  for (const slot of [...run.registers.keys()].sort((a, b) => a - b)) {
+  for (const slot of [...run.ever.registers.keys()].sort((a, b) => a - b)) {
     planMutator(made, slot, put);
     y += 6;
   }
-  if (run.everGlobals.size) {
+  if (run.ever.globals.size) {
     planGlobals(made, put);
     y += 6;
   }
@@ -40,26 +40,26 @@ function planRoots(made) {
 }
 
 function rowsOfRoots() {
-  let rows = run.everGlobals.size;
-  for (const [slot, registers] of run.registers) rows += 1.2 + registers.size + Math.min(run.depth.get(slot), 5);
+  let rows = run.ever.globals.size;
+  for (const [slot, registers] of run.ever.registers) rows += 1.2 + registers.size + Math.min(run.ever.depth.get(slot), 5);
   return rows;
 }
 
 function planMutator(made, slot, put) {
-  const depth = run.depth.get(slot);
+  const depth = run.ever.depth.get(slot);
   put({ type: 'head', slot }, 17);
   if (made.isGrid) {
     put({ type: 'grid', slot }, 36);
     if (depth) put({ type: 'stackgrid', slot }, 18);
     return;
   }
-  for (const n of [...run.registers.get(slot)].sort((a, b) => a - b)) put({ type: 'reg', slot, n }, 16);
+  for (const n of [...run.ever.registers.get(slot)].sort((a, b) => a - b)) put({ type: 'reg', slot, n }, 16);
   if (depth) put({ type: 'stackhead', slot }, 15);
   for (let below = 0; below < Math.min(depth, 5); below++) put({ type: 'stack', slot, below }, 16);
 }
 
 function planGlobals(made, put) {
-  const globals = [...run.everGlobals].sort((a, b) => a - b);
+  const globals = [...run.ever.globals].sort((a, b) => a - b);
   put({ type: 'globalhead' }, 17);
   if (!made.isGrid) for (const n of globals) put({ type: 'global', n }, 16);
   else for (let i = 0; i < globals.length; i += 8) put({ type: 'globalgrid', list: globals.slice(i, i + 8) }, 16);
@@ -76,7 +76,7 @@ function planEntries(made) {
 // -- the map
 
 function planMap(made) {
-  const used = Math.min(heap.pages, Math.max(64, ...[...run.used.keys()].map((p) => p + 1)));
+  const used = Math.min(heap.pages, Math.max(64, ...[...run.ever.pages.keys()].map((p) => p + 1)));
   const least = used <= 256 ? 14 : used <= 1024 ? 9 : 6;
   for (const across of [128, 64, 32, 16]) {
     made.perRow = across;
@@ -94,7 +94,7 @@ function planMap(made) {
 // Words are as wide as lets all pages stand in this height.
 function planPages(made, height) {
   const all = [...Array(heap.pages).keys()];
-  const ends = (p) => (run.used.has(p) ? [...run.used.get(p)] : []);
+  const ends = (p) => (run.ever.pages.has(p) ? [...run.ever.pages.get(p)] : []);
   for (const u of WORD_WIDTHS) {
     if (u > 8 && Math.floor((made.w - 8) / u) < 12) continue;
     const total = arrange(made, all, ends, u, 0);
@@ -112,6 +112,7 @@ function setScale(made, u) {
   made.rowH = u >= 44 ? 56 : u >= 20 ? 46 : u >= 13 ? 26 : u >= 8 ? 18 : 14;
   made.lowH = u >= 20 ? 7 : u >= 13 ? 6 : u >= 8 ? 5 : 4;
   made.upH = made.rowH - made.lowH - 1;
+  made.lanes = u >= 20 ? 28 : u >= 10 ? 14 : 0; // room for arrows above the rows
   made.gapY = u >= 20 ? 30 : u >= 13 ? 8 : 3;
 }
 
@@ -145,7 +146,7 @@ function spreadPage(made, p, sizes, y) {
   const rows = Math.max(1, ...sizes.map(([size, end]) => Math.ceil(end / perRow(size, across))));
   const extent = Math.max(0, ...sizes.map(([, end]) => end));
   const h = rows * made.rowH + (rows - 1) * made.gapY;
-  return { p, x: made.x, y, rowsY: y + 18 + (made.isBig ? 28 : 0), h, rows, across, extent };
+  return { p, x: made.x, y, rowsY: y + 18 + made.lanes, h, rows, across, extent };
 }
 
 // how many words a row has, so that cells of this size aren't cut where they fit

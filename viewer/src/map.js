@@ -8,33 +8,32 @@ function mapSpot(p) {
   };
 }
 
-// words reached, kept, taken and marked of a page
+// words of a page that are reached, touched and not reached, kept and neither, forgotten, and marked
 function tally(p) {
-  const sum = { reached: 0, kept: 0, taken: 0, marked: 0 };
+  const sum = { reached: 0, touched: 0, neither: 0, forgotten: 0, marked: 0 };
   if (!heap.cells[p]) return sum;
   const isLarge = heap.head[p] >= 0;
   const size = isLarge ? PAGE : heap.size[p];
   for (let i = 0; i < (isLarge ? 1 : Math.floor(PAGE / size)); i++) {
     const object = heap.objects.get(isLarge ? heap.head[p] * PAGE : p * PAGE + i * size);
     if (!object) continue;
-    sum.taken += size;
-    if (object.forgotten) continue;
-    sum.kept += size;
-    if (heap.marked.has(object.place)) sum.marked += size;
-    if (heap.reached.has(object.place)) sum.reached += size;
+    sum[object.forgotten ? 'forgotten' : TRUTHS[truthOf(object)]] += size;
+    if (!object.forgotten && heap.marked.has(object.place)) sum.marked += size;
   }
   return sum;
 }
 
-const MAP_TEXT = 'left: reached, kept, forgotten; right: marked';
-const MAP_TEXT_WIDE = 'left of a square: words reached, kept, forgotten; right: marked; border: dirty; ' +
-  'cross: to be swept; a click opens it';
-const MAP_TEXT_OF_RUN = 'a square: words reached, kept; a click opens it';
+const TRUTHS = { r: 'reached', t: 'touched', n: 'neither' };
 
-function mapText() {
-  if (!run.hasCollector) return MAP_TEXT_OF_RUN;
-  return plan.w > 660 ? MAP_TEXT_WIDE : MAP_TEXT;
-}
+const MAP_TEXTS = [
+  'a square: left its words, as they are reached or not; right: marked; cross: to be swept',
+  'left: what is true; right: marked',
+  '',
+];
+const MAP_TEXTS_OF_RUN = ['a square: its words, as they are reached or not', 'what is true', ''];
+
+// the longest text for which there is room behind the number of pages
+const mapText = () => (run.hasCollector ? MAP_TEXTS : MAP_TEXTS_OF_RUN).find((text) => measure(text) < plan.w - 84);
 
 // what changes seldom: the words beside the map and the squares themselves
 function drawMapFrame() {
@@ -57,7 +56,7 @@ function drawMapFrame() {
 
 // The looks of a row of squares, each a path.
 const MAP_LOOKS = [
-  ['live', 'reached'], ['garb', 'kept'], ['wait', 'taken'], ['cm', 'marked'],
+  ['tr', 'reached'], ['tt', 'touched'], ['tn', 'neither'], ['cg', 'forgotten'], ['hatch', 'forgotten'], ['cm', 'marked'],
   ['carried', 'carried'], ['dirty', 'dirty'], ['cross', 'pending'],
 ];
 
@@ -87,15 +86,17 @@ function drawTally(drawing, p) {
   const w = plan.side - 3;
   const high = (words) => (w * words) / PAGE;
   const half = run.hasCollector ? w * 0.62 : w;
-  const bar = (low, top) => box(x + 1.5, y + 1.5 + w - high(top), half, high(top - low));
-  if (sum.reached) drawing.reached += bar(0, sum.reached);
-  if (sum.kept > sum.reached) drawing.kept += bar(sum.reached, sum.kept);
-  if (sum.taken > sum.kept) drawing.taken += bar(sum.kept, sum.taken);
+  let low = 0;
+  for (const name of ['reached', 'touched', 'neither', 'forgotten']) {
+    if (!sum[name]) continue;
+    drawing[name] += box(x + 1.5, y + 1.5 + w - high(low + sum[name]), half, high(sum[name]));
+    low += sum[name];
+  }
   if (!sum.marked) return;
   drawing.marked += box(x + 1.5 + half, y + 1.5 + w - high(sum.marked), w - half, high(sum.marked));
 }
 
 function drawOpened() {
   const frame = (p) => box(mapSpot(p).x - 0.5, mapSpot(p).y - 0.5, plan.side + 1, plan.side + 1);
-  return path('sel', view.opened.map(frame).join(''));
+  return path('opened', view.opened.map(frame).join(''));
 }

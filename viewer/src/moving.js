@@ -1,5 +1,5 @@
 'use strict';
-// Moving through the run: to a line, by keys, and by itself.
+// Moving through the run: to a line, and by itself.
 
 let playing = 0;
 let addressTimer = 0;
@@ -18,23 +18,28 @@ function go(line, isQuiet) {
   drawInfo();
   showRow();
   drawCursor();
-  if (!isQuiet && run.at !== was) noteAddress();
+  if (isQuiet || run.at === was) return;
+  noteAddress();
+  tellOther(false);
 }
 
 // A picked object that isn't there any more is let go.
 function dropLost() {
   if (!view.picked || !('place' in view.picked)) return;
-  if (heap.objects.get(view.picked.place)?.birth !== view.picked.birth) view.picked = null;
+  if (heap.objects.get(view.picked.place)?.birth === view.picked.birth) return;
+  Object.assign(view, { picked: null, word: null });
 }
 
 // The object that a refused line is about is picked.
 function pickAbout() {
   const object = heap.objects.get(run.record.about);
-  if (object) view.picked = { place: object.place, birth: object.birth };
+  if (!object) return;
+  Object.assign(view, { picked: { place: object.place, birth: object.birth }, word: null });
 }
 
 function showPosition() {
   $('slider').value = run.at;
+  $('slider').setAttribute('aria-valuetext', `line ${run.at}: ${run.record.c || 'an empty heap'}`);
   $('where').textContent = `line ${grouped(run.at)} of ${grouped(run.last)}`;
   $('facts').innerHTML = facts().join(' &middot; ');
 }
@@ -43,21 +48,25 @@ function facts() {
   return [
     many(heap.pages, 'page'),
     `<b>${heap.phase ? 'marking' : 'idle'}</b>`,
-    ...(run.hasCollector ? factsOfCollector() : ['a run that was written down, without what its collector knows']),
-    ...(run.about.source ? ['trace by ' + escaped(run.about.source)] : []),
+    ...(run.hasCollector ? factsOfCollector() : ['a run that was written down; nothing is known of its collector']),
+    escaped(sourceText()),
   ];
 }
+
+// what the run comes from, which says how far it can be believed
+const sourceText = () => (run.about.source ? `from ${run.about.source}` : 'the trace doesn’t say what it comes from');
 
 function factsOfCollector() {
   return [
     many(heap.dirty.size, 'dirty page'),
-    ...(run.everCarried ? [`${heap.carried.size} carried`] : []),
+    ...(run.ever.hasCarried ? [`${heap.carried.size} carried`] : []),
     `${heap.pending.size} to sweep`,
   ];
 }
 
 // Browsers slow down pages whose address changes at each step, so it waits for a rest.
 function noteAddress() {
+  if (isBeside) return;
   clearTimeout(addressTimer);
   addressTimer = setTimeout(() => history.replaceState(null, '', '#line=' + run.at), 200);
 }
@@ -85,7 +94,7 @@ function follow() {
 // the next line of the collector, or the one before
 function collectorLine(step) {
   for (let i = run.at + step; i >= 1 && i <= run.last; i += step) {
-    if (/^gc /.test(run.records[i].c)) return i;
+    if (run.ofCollector[i]) return i;
   }
   return run.at;
 }
@@ -97,6 +106,7 @@ function play(isOn) {
   if (isOn) playing = setInterval(playOn, run.last > 300 ? 80 : 600);
   $('play').classList.toggle('on', !!playing);
   $('play').setAttribute('aria-label', playing ? 'Stop' : 'Play');
+  $('say').setAttribute('aria-live', playing ? 'off' : 'polite');
 }
 
 function playOn() {
@@ -110,38 +120,8 @@ function nextArrows() {
 }
 
 function letGo() {
-  view.picked = null;
-  view.hovered = null;
+  Object.assign(view, { picked: null, word: null, trail: [], hovered: null });
   drawOver();
   drawInfo();
-}
-
-const KEYS = {
-  ArrowRight: () => go(run.at + 1),
-  ArrowDown: () => go(run.at + 1),
-  j: () => go(run.at + 1),
-  ArrowLeft: () => go(run.at - 1),
-  ArrowUp: () => go(run.at - 1),
-  k: () => go(run.at - 1),
-  PageDown: () => go(run.at + 10),
-  PageUp: () => go(run.at - 10),
-  Home: () => go(0),
-  End: () => go(run.last),
-  ']': () => go(collectorLine(1)),
-  '[': () => go(collectorLine(-1)),
-  ' ': () => play(!playing),
-  s: save,
-  a: nextArrows,
-  '?': () => $('keys').showModal(),
-  Escape: letGo,
-};
-
-function onKey(event) {
-  if (event.ctrlKey || event.metaKey || event.altKey || $('keys').open) return;
-  const { tagName } = event.target;
-  if (tagName === 'SELECT' || (tagName === 'BUTTON' && (event.key === ' ' || event.key === 'Enter'))) return;
-  const act = KEYS[event.key];
-  if (!act) return;
-  event.preventDefault();
-  act();
+  tellPicked();
 }

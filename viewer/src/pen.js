@@ -21,7 +21,7 @@ const DEFS = `<defs>
 <path class="hatchline" d="M0 0v5"/></pattern>
 <pattern id="dots" width="4" height="4" patternUnits="userSpaceOnUse"><rect class="bgfill" width="4" height="4"/>
 <circle class="dot" cx="1" cy="1" r=".9"/><circle class="dot" cx="3" cy="3" r=".9"/></pattern>
-${['r', 'h', 'l', 's'].map(tip).join('\n')}
+${['r', 'l', 'n', 'f'].map(tip).join('\n')}
 </defs>`;
 
 const pen = document.createElement('canvas').getContext('2d');

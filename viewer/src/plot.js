@@ -3,10 +3,21 @@
 
 let plot = null; // {x0, x1, width, step, columns, bands, height}
 
+// The areas of the words, the lowest first: a look, the series at their upper edge, and their name.
+function areas() {
+  const { ever, hasCollector } = run;
+  return [
+    ['tr', 'reached', 'reached'],
+    ...(ever.hasTouched ? [['tt', 'held', 'touched, not reached']] : []),
+    ['tn', 'kept', 'neither'],
+    ...(hasCollector && ever.hasForgotten ? [['cg', 'taken', 'to be swept']] : []),
+  ];
+}
+
 function plotBands(isNarrow) {
-  const also = run.everCarried ? 'carried' : null;
+  const also = run.ever.hasCarried ? 'carried' : null;
   const dirty = also && !isNarrow ? 'dirty, carried pages' : 'dirty pages';
-  const words = { h: 44, isArea: true, name: 'taken' };
+  const words = { h: 14 * areas().length, isArea: true, name: 'taken' };
   if (!run.hasCollector) return [words];
   return [
     words,
@@ -19,11 +30,9 @@ function plotBands(isNarrow) {
 
 const greatest = (values) => values.reduce((most, value) => (value > most ? value : most), 0);
 
-// Makes the plan of the plot for a width: its bands stand below each other, four apart.
+// Makes the plan of the plot for a width: its bands stand below each other, four apart, behind their names.
 function planPlot(width) {
   const isNarrow = width < 700;
-  const x0 = isNarrow ? 108 : 182;
-  const x1 = width - (isNarrow ? 58 : 74);
   const slots = run.last + 1;
   let y = 4;
   const bands = plotBands(isNarrow).map((band) => {
@@ -32,8 +41,16 @@ function planPlot(width) {
     const also = band.also ? greatest(run.series[band.also]) : 0;
     return { ...band, y: top, most: Math.max(1, greatest(run.series[band.name]), also) };
   });
+  const x0 = Math.max(isNarrow ? 108 : 182, Math.ceil(roomForNames(bands[0], isNarrow)));
+  const x1 = width - (isNarrow ? 58 : 74);
   const columns = Math.max(1, Math.min(slots, Math.floor(x1 - x0)));
   return { isNarrow, x0, x1, width: x1 - x0, step: (x1 - x0) / slots, slots, columns, bands, height: y };
+}
+
+// The names of the areas stand beside the greatest number of words.
+function roomForNames({ most }, isNarrow) {
+  const names = areas().map(([, , text]) => measure(shortened(text, isNarrow)));
+  return 15 + Math.max(...names) + measure(grouped(most)) + 14;
 }
 
 // the greatest value among the lines of a column
@@ -67,7 +84,7 @@ function drawPlot() {
   const svg = $('plot');
   const width = svg.parentNode.clientWidth - (window.innerWidth <= 900 ? 16 : 28);
   plot = planPlot(width);
-  const content = DEFS + drawPhases() + plot.bands.map(drawBand).join('') + drawAxis() + '<g id="g-cursor"></g>';
+  const content = drawPhases() + plot.bands.map(drawBand).join('') + drawAxis() + '<g id="g-cursor"></g>';
   fill(svg, width, plot.height + 12, content);
 }
 
@@ -112,19 +129,21 @@ function drawBars(band, values) {
   return path('bar', bars);
 }
 
-// words reached, allocated and taken, above each other
+// words as they are reached, touched, neither and forgotten, above each other
 function drawAreas(band) {
-  const { y, h } = band;
-  const [reached, kept, taken] = ['reached', 'kept', 'taken'].map((name) => stepPoints(run.series[name], band));
-  const ground = [[plot.x0, y + h], [plot.x1, y + h]];
-  const key = (look, top, text) => path(look, box(0.5, top, 9, 8)) + label(15, top + 8.5, '', text);
-  return path('live', between(ground, reached)) +
-    path('garb', between(reached, kept)) +
-    path('wait', between(kept, taken)) +
-    key('live', y + 30, plot.isNarrow ? 'live' : 'live (reached)') +
-    key('garb', y + 15, plot.isNarrow ? 'floating' : 'allocated, not live') +
-    (run.hasCollector ? key('wait', y, plot.isNarrow ? 'to sweep' : 'forgotten, not swept') : '');
+  let low = [[plot.x0, band.y + band.h], [plot.x1, band.y + band.h]];
+  let out = '';
+  areas().forEach(([look, name, text], i) => {
+    const high = stepPoints(run.series[name], band);
+    const top = band.y + band.h - 14 * (i + 1);
+    const draw = (d) => path(look, d) + (look === 'cg' ? path('hatch', d) : '');
+    out += draw(between(low, high)) + draw(box(0.5, top + 2, 9, 8)) + label(15, top + 10, '', shortened(text, plot.isNarrow));
+    low = high;
+  });
+  return out;
 }
+
+const shortened = (text, isNarrow) => (isNarrow ? text.replace(', not reached', '').replace('to be swept', 'to sweep') : text);
 
 function drawAxis() {
   const y = plot.height + 9;
@@ -149,12 +168,12 @@ function drawCursor() {
 const valueLabel = (y, text) => label(plot.x1 + 6, y, 'mono b', text);
 
 function drawAreaValues({ y, h }, i) {
-  const { reached, kept, taken } = run.series;
-  const middle = y + h / 2;
-  const waiting = taken[i] - kept[i];
-  return valueLabel(middle - 11, waiting ? grouped(waiting) : '') +
-    valueLabel(middle + 3, grouped(kept[i] - reached[i])) +
-    valueLabel(middle + 18, grouped(reached[i]));
+  let below = 0;
+  return areas().map(([, name], n) => {
+    const value = run.series[name][i] - below;
+    below = run.series[name][i];
+    return valueLabel(y + h - 14 * n - 4, grouped(value));
+  }).join('');
 }
 
 function drawValue({ y, h, name, also, isBars }, i) {

@@ -67,14 +67,12 @@ function togglePage(p) {
   drawScene(true);
 }
 
-// A root that points into an object selects that object.
+// A root that points into an object picks that object.
 function pick(found) {
-  const object = found && found.key ? heap.find(found.word) : null;
-  view.picked = object ? { place: object.place, birth: object.birth } : found;
-  if (isSame(view.picked, view.hovered)) view.hovered = null;
-  if (view.picked && 'place' in view.picked) showPageOf(view.picked.place);
-  drawOver();
-  drawInfo();
+  const object = found && (found.key ? heap.find(found.word) : heap.objects.get(found.place));
+  if (object) pickObject(object.place);
+  else if (found) pickRoot(found.key);
+  else letGo();
 }
 
 function showPageOf(place) {

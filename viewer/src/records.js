@@ -44,7 +44,7 @@ function enterSets(heap, record, put) {
 // An object comes with words of 0.
 function makeObject(heap, [place, birth, words, kind], put) {
   for (let i = place; i < place + words; i++) {
-    if (heap.memory[i] !== 0 || heap.great.has(i)) put('word', i, 0);
+    if (heap.word(i) !== 0) put('word', i, 0);
   }
   put('object', place, { place, birth, words, kind, forgotten: false });
 }

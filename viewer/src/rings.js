@@ -19,7 +19,9 @@ function drawRings() {
   const changed = objects.map(ringsAt).join('') + words.map(([place]) => ringAroundWord(place)).join('');
   const look = objects.length + words.length > THIN_FROM ? 'new thin' : 'new';
   const freed = ringsOfFreed(record, comes);
-  return drawLooked(record) + path(look, changed) + path('gone', freed) + path('sel', selection());
+  const picked = selection();
+  return drawLooked(record) + path('ringcase', changed + freed + picked) + path(look, changed) + path('gone', freed) +
+    path('sel', picked);
 }
 
 // a word that was written
@@ -52,6 +54,7 @@ function selection() {
     const [x, y, w, h] = anchor.box;
     rings += box(x + 0.5, y + 0.5, w - 1, h - 1);
   }
+  if (view.word !== null && view.picked) rings += ringAroundWord(view.word);
   return rings;
 }
 

@@ -40,7 +40,7 @@ function drawBox(area, key, word, says, fresh) {
   note(key, word, says, x + w / 2, middle, area);
   const frame = path(fresh.has(key) ? 'rnew' : 'rbox', box(x + 1, y + 1, w - 2, h - 2));
   if (isInHeap(word)) return frame + pointDot(x + w / 2, middle, word, 2.6);
-  return word === 0 ? frame : frame + path('hatchline', `M${x + 4} ${middle}h${w - 8}`);
+  return word === 0 ? frame : frame + path('value', `M${x + 4} ${middle}h${w - 8}`);
 }
 
 const saysRegister = (slot, n) => `register ${n} of mutator ${slot}`;

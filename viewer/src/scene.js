@@ -1,12 +1,12 @@
 'use strict';
 // The whole scene: what changed is drawn again, each page and each row of the map by itself.
 
-const drawn = new Map(); // page -> its element
+const drawn = new Map(); // page -> its element, and that of its heading
 
 // The pages below the map are those that the line, or the lines just before, touched.
 function pagesOfLine() {
   const pages = [];
-  for (let i = run.at; i > Math.max(0, run.at - 60) && pages.length < 2; i--) addPagesOf(run.records[i], pages);
+  for (let i = run.at; i > Math.max(0, run.at - 60) && pages.length < 2; i--) addPagesOf(run.recordOf(i), pages);
   return pages;
 }
 
@@ -42,8 +42,8 @@ function drawScene(isNew) {
   drawOver();
 }
 
-const LAYERS = ['frame', 'map', 'open', 'pages', 'roots', 'arrows', 'rings'];
-const SCENE = DEFS + LAYERS.map((name) => `<g id="g-${name}"></g>`).join('');
+const LAYERS = ['frame', 'map', 'open', 'pages', 'roots', 'arrows', 'heads', 'rings'];
+const SCENE = LAYERS.map((name) => `<g id="g-${name}"></g>`).join('');
 
 // Chooses the pages below the map, and answers whether any of them moves.
 function openPages(isNew) {
@@ -68,10 +68,11 @@ function extentOf(p) {
 
 function drawAllPages() {
   fill($('scene'), plan.width, Math.ceil(plan.height + 4));
-  const page = (p) => `<g id="p${p}">${drawPage(plan.pages.get(p))}</g>`;
-  $('g-pages').innerHTML = [...plan.pages.keys()].map(page).join('');
+  const pages = [...plan.pages.keys()];
+  $('g-pages').innerHTML = pages.map((p) => `<g id="p${p}">${drawPage(plan.pages.get(p))}</g>`).join('');
+  $('g-heads').innerHTML = pages.map((p) => `<g id="h${p}">${drawHeading(plan.pages.get(p))}</g>`).join('');
   drawn.clear();
-  for (const p of plan.pages.keys()) drawn.set(p, $('p' + p));
+  for (const p of pages) drawn.set(p, [$('p' + p), $('h' + p)]);
   if (plan.isMap) $('g-open').innerHTML = drawOpened();
 }
 
@@ -79,8 +80,10 @@ function drawAllPages() {
 function drawStalePages() {
   const again = plan.isWide && heap.stale.size ? drawn.keys() : heap.stale;
   for (const p of again) {
-    const element = drawn.get(p);
-    if (element) element.innerHTML = drawPage(plan.pages.get(p));
+    if (!drawn.has(p)) continue;
+    const [page, heading] = drawn.get(p);
+    page.innerHTML = drawPage(plan.pages.get(p));
+    heading.innerHTML = drawHeading(plan.pages.get(p));
   }
 }
 
@@ -98,6 +101,7 @@ function drawMap(isNew) {
 function drawOver() {
   $('g-arrows').innerHTML = drawArrows();
   $('g-rings').innerHTML = drawRings();
+  showLegend();
 }
 
 // -- the roots' column stays in sight while the pages are scrolled

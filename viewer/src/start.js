@@ -3,16 +3,25 @@
 
 function size() {
   const isNarrow = window.innerWidth <= 900;
-  const width = Math.max(300, $('right').clientWidth - (isNarrow ? 16 : 28));
-  const legend = drawLegend(width);
-  fill($('legend'), width, view.legendHeight, DEFS + legend);
+  const isStacked = isNarrow || window.innerHeight <= 560; // as in frame.css
+  measureRow();
   drawPlot();
   const scroll = $('scroll');
-  const bar = scroll.offsetWidth - scroll.clientWidth ? 0 : 12; // room for a scroll bar that comes
-  plan = makePlan(width - bar, scroll.clientHeight - 6);
+  const width = Math.max(288, scroll.offsetWidth - (isNarrow ? 16 : 28));
+  plan = makePlan(width - barWidth(), isStacked ? window.innerHeight * 0.7 : scroll.clientHeight - 6);
+  makeLegend();
   drawScene(true);
   drawCursor();
   showRow();
+}
+
+// how wide a scroll bar is that may come
+function barWidth() {
+  const { style } = $('scroll');
+  style.overflowY = 'scroll';
+  const width = $('scroll').offsetWidth - $('scroll').clientWidth;
+  style.overflowY = '';
+  return width;
 }
 
 function listenToControls() {
@@ -24,10 +33,11 @@ function listenToControls() {
   $('play').onclick = () => play(!playing);
   $('save').onclick = save;
   $('help').onclick = () => $('keys').showModal();
-  $('arrows').onchange = () => {
-    $('arrows').blur();
-    drawOver();
-  };
+  $('arrows').onchange = drawOver;
+  $('info').addEventListener('click', (event) => {
+    const button = event.target.closest('[data-act]');
+    if (button) ACTS[button.dataset.act](button.dataset.arg);
+  });
   document.addEventListener('keydown', onKey);
 }
 
@@ -65,19 +75,22 @@ function listenToWindow() {
 }
 
 function start() {
+  $('defs').innerHTML = DEFS;
   run = new Run($('trace').textContent);
   heap = run.heap;
   document.title = run.about.title + ': a run of the heap';
   $('title').textContent = run.about.title;
   $('slider').max = run.last;
   $('list').style.setProperty('--digits', `${Math.max(3, String(run.last).length + 1)}ch`);
-  $('rows').style.height = `${(run.last + 1) * ROW}px`;
   run.go(0);
   size();
-  go(lineOfAddress() ?? (run.records[run.last].no ? run.last : 0), true);
+  go(lineOfAddress() ?? (run.isRefused ? run.last : 0), true);
+  tellPicked();
   listenToControls();
   listenToPictures();
   listenToWindow();
+  if (isBeside) window.addEventListener('message', followOther);
+  tellOther(true);
 }
 
 document.addEventListener('DOMContentLoaded', () => {

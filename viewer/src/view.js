@@ -6,12 +6,13 @@ let heap = null;
 let plan = null; // where everything stands (layout.js)
 const view = {
   picked: null, // what was clicked: {place, birth} of an object, or {key, word} of a root
+  word: null, // the place of the picked object's word that is chosen
+  trail: [], // what was picked before pointers were followed
   hovered: null, // what is under the pointer
   opened: [], // pages that are shown below the map
   pinned: new Set(), // pages of the map that were clicked
   anchors: [], // words of roots that are shown: {key, word, x, y, box, says}
   rootsShift: 0, // how far down the roots' column stands, so that it stays in sight
-  legendHeight: 0,
 };
 
 const focused = () => view.picked || view.hovered;
@@ -69,11 +70,13 @@ function referrers(place) {
   if (!object || object.forgotten) return found;
   const low = addressOf(object.place);
   const high = low + 8 * object.words;
-  const { memory } = heap;
-  for (let i = 0; i < memory.length; i++) {
-    if (memory[i] < low || memory[i] >= high) continue;
-    const from = heap.objectOver(i);
-    if (from && !from.kind && !from.forgotten) found.push([i, memory[i], from]);
-  }
+  heap.memory.forEach((page, p) => {
+    for (let i = 0; i < PAGE; i++) {
+      if (page[i] < low || page[i] >= high) continue;
+      const at = p * PAGE + i;
+      const from = heap.objectOver(at);
+      if (from && !from.kind && !from.forgotten) found.push([at, page[i], from]);
+    }
+  });
   return found;
 }

@@ -60,6 +60,17 @@ export class Chromium {
     return page;
   }
 
+  // the text that Chromium itself has at an address
+  async textAt(url) {
+    const { targetId } = await this.call('Target.createTarget', { url });
+    const { sessionId } = await this.call('Target.attachToTarget', { targetId, flatten: true });
+    const page = new Page(this, targetId, sessionId);
+    await page.waitFor(`location.href === ${JSON.stringify(url)} && document.readyState === 'complete'`);
+    const text = await page.run('document.body ? document.body.textContent : ""');
+    await page.close();
+    return text;
+  }
+
   async close() {
     this.browser.kill();
     await this.ended;
@@ -76,8 +87,9 @@ class Page {
     return this.browser.call(method, params, this.sessionId);
   }
 
-  resize(width, height) {
-    return this.call('Emulation.setDeviceMetricsOverride', { width, height, deviceScaleFactor: 1, mobile: false });
+  // A window of this size; zoomed, each pixel of the page is so many of the screen.
+  resize(width, height, deviceScaleFactor = 1) {
+    return this.call('Emulation.setDeviceMetricsOverride', { width, height, deviceScaleFactor, mobile: false });
   }
 
   async run(expression) {
@@ -96,8 +108,9 @@ class Page {
   }
 
   async key(key) {
-    const text = key.length === 1 ? key : undefined;
-    await this.call('Input.dispatchKeyEvent', { type: 'keyDown', key, text });
+    const text = key === 'Enter' ? '\r' : key.length === 1 ? key : undefined;
+    const windowsVirtualKeyCode = { Tab: 9, Enter: 13 }[key];
+    await this.call('Input.dispatchKeyEvent', { type: 'keyDown', key, text, windowsVirtualKeyCode });
     await this.call('Input.dispatchKeyEvent', { type: 'keyUp', key });
   }
 

@@ -2,6 +2,11 @@
 import assert from 'node:assert/strict';
 import { sleep } from './chromium.mjs';
 import { fold } from './fold.mjs';
+import { frames } from './frame_tests.mjs';
+import { inspected, pointed } from './inspect_tests.mjs';
+import { keyTests } from './key_tests.mjs';
+import { legendTells, oneMeaning } from './legend_tests.mjs';
+import { contrasts, namesAndRoles } from './access_tests.mjs';
 
 // The trace as the tests see it, with its states after some lines that a walk back and forth comes by.
 export function read(text) {
@@ -103,75 +108,6 @@ async function rows(page, { walk, states, lines }) {
   }
 }
 
-// Each cell of the pages answers to the pointer with its own object.
-const MISSED = `(() => {
-  const scene = $('scene').getBoundingClientRect();
-  const missed = [];
-  for (const object of [...heap.objects.values()].slice(0, 2000)) {
-    const s = spot(object.place);
-    const found = s && under({ clientX: scene.left + s.x + 1, clientY: scene.top + s.y + 3 });
-    if (s && found?.place !== object.place) missed.push([object.place, found]);
-  }
-  return missed.slice(0, 5);
-})()`;
-
-async function pointed(page, { walk }) {
-  for (const i of walk) {
-    await page.run(`viewer.go(${i})`);
-    assert.deepEqual(await page.run(MISSED), [], `objects under the pointer after line ${i}`);
-  }
-}
-
-const SEEN_OBJECT = `(() => {
-  $('scroll').scrollTop = 0;
-  const scene = $('scene').getBoundingClientRect();
-  const bottom = $('scroll').getBoundingClientRect().bottom;
-  for (const object of heap.objects.values()) {
-    const s = object.forgotten ? null : spot(object.place);
-    if (s && scene.top + s.y + 4 < bottom) return [object.place, scene.left + s.x + 2, scene.top + s.y + 4];
-  }
-  return null;
-})()`;
-
-// how many root words and words of normal kept objects point into an object, by a count of the tests' own
-function countPointers({ globals, mutators, words, objects }, place, n) {
-  const low = 268435456 + 8 * place;
-  const isIn = (word) => typeof word === 'number' && word >= low && word < low + 8 * n;
-  const normal = objects.filter(([, , , kind, isGone]) => !kind && !isGone);
-  const isRead = (i) => normal.some(([base, , size]) => i >= base && i < base + size);
-  const roots = [...globals.map(([, word]) => word), ...mutators.flatMap(([, regs, stack]) => [...regs, ...stack])];
-  return roots.filter(isIn).length + words.filter(([i, word]) => isIn(word) && isRead(i)).length;
-}
-
-async function inspected(page, { about, n, states }) {
-  const i = Math.floor(n / 2);
-  await page.run(`viewer.go(${i})`);
-  const seen = await page.run(SEEN_OBJECT);
-  if (!seen) return;
-  const [place, x, y] = seen;
-  const state = states.get(i);
-  const [, birth, words, kind] = state.objects.find(([base]) => base === place);
-  await page.click(x, y);
-  const said = await page.run(`$('info').innerText`);
-  const isMarked = state.marked.includes(place);
-  const wanted = [`#${birth}`, 268435456 + 8 * place, `page ${place >> 9}, word ${place & 511}`];
-  const known = about.collector === 0 ? [] : [isMarked ? 'marked' : 'not marked'];
-  for (const text of [...wanted, kind ? 'atomic' : 'normal', ...known]) {
-    assert.ok(said.includes(String(text)), `the inspector lacks ${text}: ${said}`);
-  }
-  assert.equal(countListed(said), countPointers(state, place, words), `who points to the object: ${said}`);
-  await page.key('Escape');
-  assert.ok((await page.run(`$('info').innerText`)).startsWith(`After line ${i}`), 'the selection is let go');
-}
-
-// how many the inspector names, or says that there are more
-function countListed(said) {
-  const list = /from\s+([^]*?)\nwords/.exec(said)[1];
-  if (/nothing points/.test(list)) return 0;
-  const more = /and (\d+) more/.exec(list);
-  return list.split('; ').length + (more ? Number(more[1]) - 1 : 0);
-}
-
 // A click on a square of the map opens its page, another closes it.
 async function mapOpens(page) {
   const square = `$('scene').getBoundingClientRect()`;
@@ -244,7 +180,7 @@ export async function opensAtRefused(page, { n, lines, states }) {
   assert.ok(info.startsWith(object ? `Object #${object[1]}` : 'After line'), info);
 }
 
-export async function exported(page, { n }) {
+export async function exported(page, { n, about }) {
   await page.run(`viewer.go(${Math.floor(n * 0.7)})`);
   const bad = await page.run(`(() => {
     const text = viewer.picture();
@@ -252,16 +188,8 @@ export async function exported(page, { n }) {
     return error ? error.textContent : /var\\(--/.test(text) ? 'a variable is left' : '';
   })()`);
   assert.equal(bad, '', 'the SVG');
-}
-
-async function narrow(page) {
-  await page.resize(800, 900);
-  await sleep(150);
-  const wide = await page.run(
-    `[document.documentElement.scrollWidth > innerWidth, $('scroll').scrollWidth > $('scroll').clientWidth + 1]`,
-  );
-  assert.deepEqual(wide, [false, false], 'nothing is wider than 800 pixels');
-  await page.resize(1400, 900);
+  const [seen, picture] = await page.run(`[$('facts').textContent, viewer.picture()]`);
+  assert.ok(seen.includes(about.source) && picture.includes(about.source), 'page and picture say what the run comes from');
 }
 
 async function quiet(page) {
@@ -270,7 +198,10 @@ async function quiet(page) {
 
 // What is asked of each page, by the name under which it is told.
 export function testsOf({ about, lines }) {
-  const tests = { addresses, keys, controls, plays, states, rows, pointed, inspected, bandsFit, exported, narrow };
+  const tests = {
+    addresses, keys, controls, plays, states, rows, pointed, inspected, bandsFit, exported, ...keyTests, legendTells, oneMeaning,
+    namesAndRoles, contrasts, frames,
+  };
   if (lines.some(({ c }) => c.startsWith('gc '))) tests.collectorKeys = collectorKeys;
   if (about.pages > 64) tests.mapOpens = mapOpens;
   if (about.pages === 40) tests.rootsStay = rootsStay;

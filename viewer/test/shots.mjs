@@ -7,6 +7,10 @@ import { Firefox } from './firefox.mjs';
 const SHOTS = [
   { name: 'hidden_pointer', line: 11 },
   { name: 'hidden_pointer', line: 13, theme: 'dark' },
+  { name: 'partial', line: 31, width: 1440 },
+  { name: 'partial', line: 31, width: 400, height: 800 },
+  { name: 'partial', line: 31, width: 720, height: 450, zoom: 2 },
+  { name: 'busy', line: 178, width: 400, height: 800 },
   { name: 'partial', line: 20 },
   { name: 'partial', line: 31, theme: 'dark' },
   { name: 'stress', line: 166 },
@@ -21,8 +25,9 @@ const SHOTS = [
 
 export async function takeShots(browser, folder, pages) {
   const url = new Map(pages);
-  for (const { name, line, width = 1400, height = 900, theme = 'light', scroll } of SHOTS) {
+  for (const { name, line, width = 1400, height = 900, theme = 'light', zoom = 1, scroll } of SHOTS) {
     const page = await browser.open(`${url.get(name)}#line=${line}`, { width, height, theme });
+    await page.resize(width, height, zoom);
     if (scroll !== undefined) await page.run(`$('scroll').scrollTop = ${scroll}`);
     await sleep(200);
     await page.shot(join(folder, `${name}-${line}-${width}-${theme}.png`));
