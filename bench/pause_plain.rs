@@ -18,12 +18,12 @@ use std::time::Instant;
 
 const PAGES: usize = 4_096;
 const ENTRIES: usize = 256;
-const LOOKS: u32 = 100_000;
 const LISTS: u64 = 64;
 const ROUNDS: u32 = 30;
 const LEAST_WORDS: u64 = 65_536;
 const SLICE: u64 = 1_024;
 const DIRTY_PAGES: usize = 16;
+const ENTRIES_EACH: usize = 4;
 
 struct Helper {
     stack: [u64; ENTRIES],
@@ -34,13 +34,10 @@ struct Helper {
 
 struct Pause<'a> {
     table: &'a [AtomicU64],
-    marker: &'a Marker,
     map: &'a [Page],
     memory: &'a [u64],
     roots: &'a [u64],
     helpers: usize,
-    offer: &'a AtomicU64,
-    busy: &'a AtomicU64,
 }
 
 impl Pause<'_> {
@@ -94,73 +91,38 @@ impl Pause<'_> {
         }
     }
 
-    fn offer_lowest(&self, helper: &Helper, offered: usize) -> usize {
-        if offered >= helper.len {
-            return helper.len;
-        }
-        if helper.len - offered < 2 || self.offer.load(SeqCst) != 0 {
-            return offered;
-        }
-        self.offer.store(helper.stack[offered], SeqCst);
-        offered + 1
-    }
-
     fn read_stack(&self, helper: &mut Helper) {
-        let mut offered = 0;
         while helper.len > 0 {
             helper.len -= 1;
             let found = object_at(self.map, helper.stack[helper.len]);
             self.read_words(helper, found, 0);
-            offered = self.offer_lowest(helper, offered);
         }
     }
 
-    fn read_offered(&self, helper: &mut Helper) {
-        let base = if self.offer.load(SeqCst) == 0 { 0 } else { self.offer.swap(0, SeqCst) };
-        if base == 0 {
-            thread::yield_now();
-            return;
-        }
-        helper.stack[0] = base;
-        helper.len = 1;
-        self.busy.fetch_add(1, SeqCst);
-        self.read_stack(helper);
-        self.busy.fetch_sub(1, SeqCst);
-    }
-
-    fn read_entry(&self, helper: &mut Helper, (base, next): (u64, u32)) {
-        if let Some(found) = find(self.map, base) {
-            self.read_words(helper, found, next);
-        }
-    }
-
-    // The entries of the helper's share. No page is dirty here when helpers start.
-    fn read_entries(&self, helper: &mut Helper, share: usize) {
-        for entry in self.marker.waiting().iter().skip(share).step_by(self.helpers) {
-            self.read_entry(helper, *entry);
+    // The entries that were dealt to the helper. No page is dirty here when helpers start.
+    fn read_entries(&self, helper: &mut Helper, entries: &[(u64, u32)]) {
+        for (base, next) in entries {
+            if let Some(found) = find(self.map, *base) {
+                self.read_words(helper, found, *next);
+            }
             self.read_stack(helper);
         }
     }
 
-    fn help(&self, share: usize) -> Helper {
+    fn help(&self, place: usize, entries: &[(u64, u32)]) -> Helper {
         let mut helper = Helper { stack: [0; ENTRIES], len: 0, dirty: vec![0; PAGES / 64], carried: vec![0; PAGES / 64] };
-        for word in self.roots.iter().skip(share).step_by(self.helpers) {
+        for word in self.roots.iter().skip(place).step_by(self.helpers) {
             self.visit(&mut helper, *word);
         }
-        if let (0, Some(entry)) = (share, self.marker.current()) {
-            self.read_entry(&mut helper, entry);
-        }
+        self.read_entries(&mut helper, entries);
         self.read_stack(&mut helper);
-        self.read_entries(&mut helper, share);
-        self.busy.fetch_sub(1, SeqCst);
-        for _ in 0..LOOKS {
-            if self.busy.load(SeqCst) == 0 {
-                break;
-            }
-            self.read_offered(&mut helper);
-        }
         helper
     }
+}
+
+// What is dealt to a place: every entry that is left over whose number is that of the place modulo the number of helpers.
+fn deal(marker: &Marker, place: usize, helpers: usize) -> Vec<(u64, u32)> {
+    marker.waiting().iter().copied().chain(marker.current()).skip(place).step_by(helpers).collect()
 }
 
 fn has_words(map: &[Page], least: u64) -> bool {
@@ -177,7 +139,7 @@ fn has_words(map: &[Page], least: u64) -> bool {
 }
 
 fn is_shareable(marker: &Marker, helpers: usize) -> bool {
-    helpers > 1 && marker.waiting().len() + marker.count_dirty() / DIRTY_PAGES >= helpers
+    helpers > 1 && marker.waiting().len() + marker.count_dirty() / DIRTY_PAGES >= ENTRIES_EACH * helpers
 }
 
 // Marks on alone until nothing is left, or enough waits to be shared over a large enough heap. Answers whether nothing is left.
@@ -198,12 +160,13 @@ fn mark_before_helpers(marker: &mut Marker, map: &[Page], memory: &[u64], roots:
 
 fn mark_with_helpers(marker: &mut Marker, map: &[Page], memory: &[u64], roots: &[u64], helpers: usize) {
     let table: Vec<AtomicU64> = marker.marks.iter().map(|word| AtomicU64::new(*word)).collect();
-    let (offer, busy) = (AtomicU64::new(0), AtomicU64::new(helpers as u64));
-    let pause = &Pause { table: &table, marker, map, memory, roots, helpers, offer: &offer, busy: &busy };
+    let shares: Vec<_> = (0..helpers).map(|place| deal(marker, place, helpers)).collect();
+    let (last, others) = shares.split_last().unwrap();
+    let pause = &Pause { table: &table, map, memory, roots, helpers };
     let crew: Vec<Helper> = thread::scope(|scope| {
-        let crew: Vec<_> = (1..helpers).map(|share| scope.spawn(move || pause.help(share - 1))).collect();
+        let crew: Vec<_> = others.iter().enumerate().map(|(place, entries)| scope.spawn(move || pause.help(place, entries))).collect();
         // The last one works on this thread.
-        let last = pause.help(helpers - 1);
+        let last = pause.help(helpers - 1, last);
         crew.into_iter().map(|job| job.join().unwrap()).chain([last]).collect()
     });
     marker.forget_work();

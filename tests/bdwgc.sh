@@ -1,8 +1,9 @@
 #!/usr/bin/env bash
-# tests/bdwgc.sh [FOLDER]
+# tests/bdwgc.sh [FOLDER [NAME..]]
 #
-# bdwgc's own test programs, of its source in FOLDER (without one, of Debian's package libgc, by apt-get source, which needs a deb-src
-# line), compiled with its own headers and linked with libmpgc: each in full collections and in small steps. It prints a table
+# bdwgc's own test programs, or those with these NAMEs, of its source in FOLDER (without one, of Debian's package libgc, by apt-get source,
+# which needs a deb-src line), compiled with its own headers and linked with libmpgc: each in full collections and in small steps. It prints a
+# table
 #
 #     | PROGRAM | full | steps |
 #
@@ -62,8 +63,10 @@ right=0
 not=0
 echo "| Program | full | steps |"
 echo "|---|---|---|"
-for name in test middle smash_test huge_test realloc_test staticrootstest disclaim_test disclaim_bench disclaim_weakmap_test \
-    initsecondarythread subthread_create threadkey_test test_atomic_ops test_cpp leak_test thread_leak_test; do
+names=("${@:2}")
+[ ${#names[@]} -gt 0 ] || names=(test middle smash_test huge_test realloc_test staticrootstest disclaim_test disclaim_bench
+    disclaim_weakmap_test initsecondarythread subthread_create threadkey_test test_atomic_ops test_cpp leak_test thread_leak_test)
+for name in "${names[@]}"; do
     if made "$name"; then
         full=$(ran "$name" full)
         steps=$(ran "$name" steps)

@@ -1,5 +1,5 @@
 # shellcheck shell=bash disable=SC2034,SC2154 # (whoever reads this has `kind`, and uses what is here)
-# Cases of the programs: files on which a program is run, and how it has to end. Read by tests/rows.sh and tests/programs.sh, whose
+# Cases of the programs: files on which a program is run, and how it has to end. Read by tests/rows.sh, tests/programs.sh and tests/recording_header.sh, whose
 # name for themselves is `kind`. Which builds run is said in tests/builds.sh.
 top=$(dirname "$(dirname "$(readlink -f "${BASH_SOURCE[0]}")")")
 # shellcheck source=tests/builds.sh
@@ -34,6 +34,13 @@ case_is() {
     printf '%s|%s|%s\n' "$1" "$2" "$3" >>"$cases.wanted"
 }
 
+# from_the_rule FILE: of what is printed only what stands from the first line of the file on, which is a rule; before it has to stand
+# what the line did.
+from_the_rule() {
+    awk 'NR == FNR { if (FNR == 1) rule = $0; next } $0 == rule && FNR > 1 { is_said = 1 } is_said' "$1" "$room/out" >"$room/rule"
+    mv "$room/rule" "$room/out"
+}
+
 run_all_cases() {
     local name status said words build
     build=$(build_of "$program")
@@ -41,6 +48,7 @@ run_all_cases() {
         mapfile -t words <"$cases/$name.args"
         "$build" "${words[@]/#\{\}/"$cases/$name"}" >"$room/out" 2>"$room/err" </dev/null
         is "$name: status, what is said" "$status $said" "$? $(cat "$room/err")"
+        [ ! -e "$cases/$name.rule" ] || from_the_rule "$cases/$name.stdout"
         is "$name: what is printed" "" "$(cmp "$cases/$name.stdout" "$room/out" 2>&1)"
     done <"$cases.wanted"
 }
@@ -49,6 +57,15 @@ run_all_cases() {
 run_cases() {
     is "cases of $program" yes "$([ "$(wc -l <"$cases.wanted")" -ge "$1" ] && echo yes)"
     if is_built "$program"; then run_all_cases; fi
+}
+
+# named_places RUN: standard input, with the address of the Nth alloc of the run in the place of each {N}, and in hexadecimal of each {0xN}.
+named_places() {
+    local number=0 place
+    while read -r place; do
+        printf 's/{%d}/%s/g; s/{0x%d}/0x%x/g\n' $((number += 1)) "$place" $number "$place"
+    done < <(sed -n 's/.* alloc .* => ok @ \([0-9]*\).*/\1/p' "$1") >"$room/places"
+    sed -f "$room/places"
 }
 
 # close_cases: how many passed and failed. Its status is 0 if none failed.

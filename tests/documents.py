@@ -4,8 +4,8 @@ run, in their order, from the documents themselves, and has to end as stands bes
 what the commands write lies outside of the tree or is ignored by git. What a block has to say of itself stands in tests/documents/blocks.py.
 Then faults are planted in such a clone, each of which has to be noticed.
 
-It needs rt, cc and git. Where `rt ci` passed before on this machine, the proofs are kept, and it takes some minutes. `--plants` plants the
-faults alone that need no proof, in seconds."""
+It needs rt, cc and git. Where `rt ci` passed before on this machine, the proofs are kept, and it takes some minutes. `--plants` only compares
+the words of ./mpheap with its table, and plants the faults that need no proof, in seconds."""
 import glob
 import os
 import subprocess
@@ -16,7 +16,8 @@ sys.dont_write_bytecode = True
 TOP = os.path.dirname(os.path.dirname(os.path.abspath(__file__)))
 sys.path.insert(0, os.path.join(TOP, "tests", "documents"))
 from checker import Checker
-from plants import plant_all, plant_answer
+from plants import plant_all, plant_answer, plant_words
+from words import faults_of
 
 DOCUMENTS = ("README.md", "docs/EMBEDDING.md", "docs/PROGRAMS.md", "docs/USING.md", "docs/REPLAY.md", "docs/SCRIPTS.md", "docs/TOUR.md",
              "docs/SPEED.md")
@@ -46,6 +47,8 @@ def main():
         os.mkdir(home)
         checker = Checker(tree, home)
         plant_all(checker, os.path.join(room, "planted"))
+        checker.judge("the words of ./mpheap", "; ".join(faults_of(TOP, DOCUMENTS)))
+        plant_words(checker, TOP, os.path.join(room, "words"), DOCUMENTS)
         if sys.argv[1:] != ["--plants"]:
             clone(tree)
             for document in others(tree):

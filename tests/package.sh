@@ -1,7 +1,8 @@
 #!/usr/bin/env bash
 # Tests of `./mpheap package`: the archive, unpacked in a folder, and the .deb, in a root of its own that has nothing but it, the C library and
 # the tools that its command calls: there programs run, C is linked, and LD_PRELOAD works. It needs rt, cc and dpkg-deb, and for the root
-# to be root; what isn't there is left out, and said. Where `rt ci` passed before on this machine, it takes some minutes.
+# to be root; what isn't there is left out, and said. Where `rt ci` passed before on this machine, it proves one crate, the library for C, and
+# takes some two minutes; tests/wrapper/packing.sh tries the rest over a stand-in for rt.
 set -uo pipefail
 top=$(dirname "$(dirname "$(readlink -f "${BASH_SOURCE[0]}")")")
 room=$(mktemp -d)
@@ -46,19 +47,33 @@ runs() {
     is "$what: a page" "<!doctype html>" "$(head -n 1 "$folder/page" | tr '[:upper:]' '[:lower:]')"
     "$@" build >"$room/said" 2>&1
     is "$what: no build" "3 mpheap: 'build' needs the sources, and this is a package" "$? $(cat "$room/said")"
+    is "$what: its version" "$("$top/mpheap" --version)" "$("$@" --version)"
+    is "$what: how a command is used" "usage: mpheap record --pages N FILE" "$("$@" help record | head -n 1)"
+    "$@" rum >"$room/said" 2>&1
+    is "$what: words that are wrong" "2 mpheap: 'rum' is no command: the nearest is 'run'" "$? $(head -n 1 "$room/said")"
 }
 
-# SOURCES has the sums of what is packed and of what it was made from.
+# SOURCES has the sums of what is packed and of what it was made from, and tells of each wrong body whether it was refused.
 sources_are_told() {
     local papers=$1/share/doc/mpheap
+    is "its version" "$("$top/mpheap" --version)" "$(sed -n '2,4s/^  //p' "$papers/SOURCES")"
     is "the rules of proof" "$(rt version)" "$(sed -n 's/^  mpheap: //p' "$papers/SOURCES")"
     is "wrong bodies" "$(find "$top"/crates/{words,block_map,draw}/must-fail -name '*.edit' -printf '%f\n' | sort)" \
         "$(sed -nE 's,^  crates/(words|block_map|draw)/must-fail/,,p' "$papers/SOURCES" | sort)"
+    is "those that a gate told of" "$(sed -n 's,.* crates/words/must-fail/,,p' "$top/out/refused" 2>/dev/null | sort)" \
+        "$(sed -n '/^Wrong bodies of which no gate/q; s,^  crates/words/must-fail/,,p' "$papers/SOURCES" | sort)"
     (cd "$1" && sed -n 's/^  \([0-9a-f]\{64\}  \.\/\)/\1/p' "$papers/SOURCES" | sha256sum --quiet -c) >"$room/said" 2>&1
     is "the sums of what is packed" "0 " "$? $(cat "$room/said")"
     (cd "$top" && sed -n 's/^  \([0-9a-f]\{64\}  [a-zH].*\)/\1/p' "$papers/SOURCES" | tee "$room/sums" | sha256sum --quiet -c) >"$room/said" 2>&1
     is "the sums of the sources" "0 " "$? $(cat "$room/said")"
     is "enough of them" yes "$([ "$(wc -l <"$room/sums")" -gt 500 ] && echo yes)"
+}
+
+# completion_is_packed FOLDER: bash and man read what is there.
+completion_is_packed() {
+    # shellcheck disable=SC2016 # (the inner shell expands it)
+    is "completion" "record replay" "$(bash -c '. "$1"; COMP_WORDS=(mpheap re) COMP_CWORD=1; _mpheap; echo "${COMPREPLY[*]}"' - "$1/share/bash-completion/completions/mpheap")"
+    is "manual" ".TH MPHEAP 1 .TH LIBMPGC 3" "$(cut -d' ' -f1-3 <(head -n 1 "$1/share/man/man1/mpheap.1") <(head -n 1 "$1/share/man/man3/libmpgc.3") | tr '\n' ' ' | sed 's/ $//')"
 }
 
 # A program linked with a libgc whose requests abort: under libmpgc none comes there.
@@ -87,7 +102,7 @@ in_a_root_of_its_own() {
     local root=$room/root
     dpkg-deb -x "$room"/mpheap_*_amd64.deb "$root"
     ln -s usr/bin "$root/bin"
-    copied "$root" sh env dirname readlink basename sed tr cat mktemp rm mkdir ls wc tail cp mv
+    copied "$root" bash sh env dirname readlink basename sed awk tr cat mktemp rm mkdir ls wc tail head cp mv
     copied "$root" "$root/usr/lib/mpheap/programs/mpheap" "$root/usr/lib/libmpgc.so"
     mkdir -p "$root/tmp" "$root/home" "$root/dev" "$root/etc"
     mknod "$root/dev/null" c 1 3
@@ -107,6 +122,7 @@ mkdir "$room/unpacked"
 tar xzf "$room"/mpheap-*-x86_64.tar.gz -C "$room/unpacked" || close
 folder=$(echo "$room"/unpacked/mpheap-*)
 runs "unpacked" "$room/unpacked" "$room/unpacked" env PATH=/usr/bin:/bin "$folder/bin/mpheap"
+completion_is_packed "$folder"
 sources_are_told "$folder"
 build_programs "$folder"
 if [ ! -e "$(echo "$room"/mpheap_*_amd64.deb)" ]; then

@@ -80,6 +80,11 @@ options_are_read() {
     file_is no_words 2 "$usage" "" </dev/null
 }
 
+# outside ADDRESS HEX BYTES FROM: what is said of a word that was placed outside of a heap.
+outside() {
+    lines "line 2: the new object at $1 ($2) of 1 words lies outside of the heap, which has $3 bytes from $4 on" "line 2: $not_placed"
+}
+
 # The range of a heap that places objects anywhere: in whole pages of bytes, from a multiple of 8 on, and with its end below 2 ^ 64.
 ranges_are_read() {
     local from=140737488289792 bad=0 words ranged="--places any --from 140737488289792"
@@ -87,12 +92,12 @@ ranges_are_read() {
         file_is ranged 0 "" "legal, 2 lines" --places any --from $from --bytes 8192 {}
     file_is ranged_in_another_order 0 "" "legal, 2 lines" --why --bytes 8192 --from $from --places any {} <"$room/ranged"
     file_is ranged_by_pages 0 "" "legal, 2 lines" --from $from --places any --pages 2 {} <"$room/ranged"
-    file_is ranged_below 1 "" "line 2: $not_placed" --places any --from $from --bytes 4096 {} <"$room/ranged"
-    file_is ranged_elsewhere 1 "" "line 2: $not_placed" --places any --bytes 8192 {} <"$room/ranged"
+    file_is ranged_below 1 "" "$(outside 140737488297976 0x7fffffff1ff8 4096 $from)" --places any --from $from --bytes 4096 {} <"$room/ranged"
+    file_is ranged_elsewhere 1 "" "$(outside 140737488297976 0x7fffffff1ff8 8192 268435456)" --places any --bytes 8192 {} <"$room/ranged"
     file_is ranged_from_the_first 0 "" "legal, 2 lines" --places any --bytes 4096 {} <"$room/sized"
     file_is ranged_from_it 0 "" "legal, 2 lines" --places any --from 268435456 --bytes 4096 {} <"$room/sized"
     file_is ranged_largest 0 "" "legal, 2 lines" --places any --from 268435456 --bytes 16777216 {} <"$room/sized"
-    file_is ranged_highest 1 "" "line 2: $not_placed" --places any --from 18446744073692774392 --bytes 16777216 {} <"$room/ranged"
+    file_is ranged_highest 1 "" "$(outside 140737488297976 0x7fffffff1ff8 16777216 18446744073692774392)" --places any --from 18446744073692774392 --bytes 16777216 {} <"$room/ranged"
     while IFS= read -r words; do
         bad=$((bad + 1))
         # shellcheck disable=SC2086 # (each is a word of its own)
@@ -127,14 +132,67 @@ $ranged --bytes
 BAD
 }
 
-# With `--why` a path from a root leads to an object that has to stay: through two objects, and straight from a register. Nothing more
-# is said of other lines.
+# list_run N: a list of N pairs, each pointing into the one before, of which the first is taken.
+list_run() {
+    local at
+    echo "attach => mutator 0"
+    for ((at = 1; at <= $1; at++)); do
+        lines "0 alloc 2 2 normal => ok @ $((268435440 + 16 * at))" "0 store 2 0 1 => ok" "0 copy 1 2 => ok"
+    done
+    lines "0 set 2 0 => ok" "gc collect => 1 - 268435456"
+}
+
+# list_object AT: how a pair of it is named.
+list_object() { printf 'object %d (0x%x, allocated at line %d, 2 words)' $((268435440 + 16 * $1)) $((268435440 + 16 * $1)) $((3 * $1 - 1)); }
+
+# list_path N FROM TO: the steps to the pairs from one to another, which stands before it in the list of N.
+list_path() {
+    local at
+    for ((at = $2; at >= $3; at--)); do
+        if [ "$at" = "$1" ]; then
+            echo "line $((3 * $1 + 3)): register 1 of mutator 0 points into $(list_object "$at") since line $((3 * at + 1))"
+        else
+            echo "line $((3 * $1 + 3)): word 0 of object $((268435456 + 16 * at)) points into $(list_object "$at") since line $((3 * at + 3))"
+        fi
+    done
+}
+
+# list_said N PATH: all that is said of such a run.
+list_said() {
+    local line="line $((3 * $1 + 3)):"
+    lines "$line $(list_object 1) was taken, but word 0 of object 268435472 points into it" "$2" \
+        "$(example_block 5 | sed -n "s/^line 9: a collection/$line a collection/p")" "$line a sequential heap answers 0" \
+        "$line the object at 268435456 has to stay: word 0 of the object at 268435472 points into it"
+}
+
+# A path from a root leads to an object that has to stay: through two objects, and straight from a register. `--why` says nothing more of
+# it, nor of other lines; but of a path of more than twelve steps it shows all.
 paths_are_shown() {
     example_block 1 | file_is why_legal 0 "" "legal, 9 lines" --pages 1 --why {}
     example_block 1 | sed '7s/=>.*/=> 0 -/' | file_is why_to_go 1 "" "$(example_block 2)" --pages 1 --why {}
-    example_block 3 | file_is why_by_words 1 "" "$(example_block 4)" --pages 1 --why {}
-    example_block 3 | sed '8d' | file_is why_by_root 1 "" "$(example_block 4 | sed 's/^line 9/line 8/; 4,5d
-        3s/: word.*/: register 3 of mutator 0 points into it/; 6s/word 1 of the object at 268435472/register 3 of mutator 0/')" --pages 1 --why {}
+    example_block 4 | file_is why_by_words 1 "" "$(example_block 5)" --pages 1 --why {}
+    example_block 4 | file_is by_words 1 "" "$(example_block 5)" --pages 1 {}
+    example_block 4 | sed '8d' | file_is by_root 1 "" "$(example_block 5 | sed '2,3d; s/^line 9/line 8/; s/word 1 of object 268435472/register 3 of mutator 0/
+        s/word 1 of the object at 268435472/register 3 of mutator 0/; s/since line 6/since line 4/')" --pages 1 {}
+    list_run 12 | file_is twelve_steps 1 "" "$(list_said 12 "$(list_path 12 12 1)")" --pages 1 {}
+    list_run 13 | file_is why_thirteen_steps 1 "" "$(list_said 13 "$(list_path 13 13 1)")" --pages 1 --why {}
+    list_run 13 | file_is thirteen_steps 1 "" "$(list_said 13 "$(list_path 13 13 8)
+line 42: and so on: --why shows all steps
+$(list_path 13 6 1)")" --pages 1 {}
+}
+
+# What is said first of each form of a wrong line, with all that follows; a rule is named there by a word.
+first_lines_are_told() {
+    local name pages status options
+    while read -r name pages status options; do
+        # shellcheck disable=SC2086 # (the options are words of their own)
+        case_is "$name" "$status" "" --pages "$pages" $options {}
+    done < <(sed "s/^: RULE COLLECT/: $(example_block 2 | sed -n 's/^line 7: \(a collection.*\)/\1/p')/; s/^: RULE PLACE/: $not_placed/
+        s/^: RULE LOAD/: a load answers the word that was stored last, or why there is none/
+        s/^: RULE STORE/: a store is refused exactly if its address is no word of an object/
+        s/^: RULE NUMBER/: the number is that of the collections so far/
+        s/^: RULE REFUSAL/: a request is refused for its slot or its size, or at any time with Full/" "$top/tests/first_lines.runs" |
+        "$top/tests/rows/split_runs" -v "room=$cases" -)
 }
 
 # Runs of the hobby collector in examples/c, as it stands and with each of its bugs: its .expected has what is said of each,
@@ -168,12 +226,6 @@ bdwgc_runs_are_judged() {
     done
 }
 
-# named_places RUN: standard input, with the address of the Nth alloc of the run in the place of each {N}.
-named_places() {
-    awk 'NR == FNR { if (/ alloc .* => ok @ /) place[++count] = $9; next }
-        { for (at = 1; at <= count; at++) gsub("[{]" at "[}]", place[at]); print }' "$1" -
-}
-
 runs_are_written() {
     lines attach "0 alloc 1 2 normal" | file_is written 0 "" "$(lines "attach => mutator 0" "0 alloc 1 2 normal => ok @ 268435456")" --pages 1 {}
     lines attach "0 get 16" attach | file_is bad_line 2 "bad line 2" "attach => mutator 0" --pages 1 {}
@@ -186,12 +238,13 @@ run_cases 12
 open_cases replay
 written_runs_are_judged
 paths_are_shown
+first_lines_are_told
 options_are_read
 ranges_are_read
 foreign_runs_are_judged
 bdwgc_runs_are_judged
 faults_are_told
-run_cases 73
+run_cases 105
 open_cases record
 runs_are_written
 faults_are_told

@@ -54,9 +54,15 @@ workloads() {
     done < <(texts workloads)
 }
 
+# rules_alone NAME STATUS: of a no only what is said from the rule on is compared. What is said first stands in tests/programs.sh.
+rules_alone() {
+    [ "$2" != 1 ] || : >"$cases/$1.rule"
+}
+
 written_runs() {
     local name pages status options
     while read -r name pages status options; do
+        rules_alone "$name" "$status"
         # shellcheck disable=SC2086 # (the options are words of their own)
         case_is "$name" "$status" "" --pages "$pages" $options {}
     done < <("$rows/split_runs" -v "room=$cases" "$rows"/*.runs)
@@ -74,6 +80,7 @@ run_texts() {
             *"not a line of a run" | "no lines") status=2 ;;
             *) status=1 ;;
         esac
+        rules_alone "$name" $status
         case_is "$name" $status "" --pages 1 {}
     done < <(texts run_texts)
 }

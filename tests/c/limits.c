@@ -99,6 +99,39 @@ static void pages_past_the_others(void) {
     mpheap_close(&heap);
 }
 
+/* A page of a large heap is told once until all are told anew, however often that was, and whichever page shares its place. One is told as
+ * seldom as the number of a turn comes again. */
+static void pages_are_told_once(void) {
+    enum { ROUNDS = 9000, SELDOM = 4095 };
+    const uint64_t low = MPHEAP_FIRST_ADDRESS, high = low + MPHEAP_TOLD_PAGES * (uint64_t)MPHEAP_PAGE_BYTES;
+    const uint64_t seldom = low + 7 * MPHEAP_PAGE_BYTES;
+    mpheap heap = MPHEAP_CLOSED;
+    static mpheap_told told = MPHEAP_TOLD;
+    uint64_t count = 0;
+    uint32_t tellings = 0, again = 0;
+    IS(mpheap_open_mapped_with(MANY, MPHEAP_MOST_REQUEST_WORDS, &heap), MPHEAP_OK);
+    IS(mpheap_begin(&heap), MPHEAP_OK);
+    for (int round = 0; round < ROUNDS; round++) {
+        uint64_t one = round % SELDOM == 0 ? seldom : round / 2 % 2 ? high : low;
+        mpheap_tells_anew(&told);
+        mpheap_before_write(&heap, &told, at(one));
+        tellings += mpheap_dirty_pages(&heap);
+        mpheap_retrace(&heap, &count);
+        mpheap_before_write(&heap, &told, at(one) + 511);
+        again += mpheap_dirty_pages(&heap);
+    }
+    IS(tellings, ROUNDS);
+    IS(again, 0);
+    mpheap_tells_anew(&told);
+    mpheap_before_write(&heap, &told, at(low));
+    mpheap_before_write(&heap, &told, at(high));
+    IS(mpheap_dirty_pages(&heap), 2);
+    IS(mpheap_retrace(&heap, &count), MPHEAP_OK);
+    mpheap_before_write(&heap, &told, at(low));
+    IS(mpheap_dirty_pages(&heap), 2);
+    mpheap_close(&heap);
+}
+
 /* Bytes of this process that are in memory. */
 static uint64_t resident(void) {
     unsigned long all = 0, in_memory = 0;
@@ -178,6 +211,7 @@ int main(void) {
     a_request_is_the_heap(mpheap_open_with);
     a_request_is_the_heap(mpheap_open_mapped_with);
     pages_past_the_others();
+    pages_are_told_once();
     words_of_free_pages_change();
     return counts("limits");
 }

@@ -102,11 +102,11 @@ static void ranges_are_told(void) {
 
 /* What is told of a write stands beside nothing else: an address outside of the heap's is ignored by the barrier too. */
 static void others_are_ignored(void) {
-    struct { uint64_t before; mpheap_told told; uint64_t after; } kept;
+    static struct { uint64_t before; mpheap_told told; uint64_t after; } kept;
     mpheap heap = MPHEAP_CLOSED;
+    uint64_t count = 0;
     static uint64_t outside;
     uint64_t *const first = (uint64_t *)(uintptr_t)MPHEAP_FIRST_ADDRESS;
-    kept.before = kept.after = 0;
     mpheap_tells_anew(&kept.told);
     IS(mpheap_open_mapped(MPHEAP_MAX_PAGES, &heap), MPHEAP_OK);
     IS(mpheap_begin(&heap), MPHEAP_OK);
@@ -121,7 +121,11 @@ static void others_are_ignored(void) {
     IS(outside, 5);
     mpheap_before_write(&heap, &kept.told, first + MPHEAP_MAX_PAGES * MPHEAP_PAGE_WORDS - 1);
     IS(mpheap_dirty_pages(&heap), 1);
-    IS(kept.told.pages[MPHEAP_MAX_PAGES - 1], 1);
+    IS(mpheap_retrace(&heap, &count), MPHEAP_OK);
+    mpheap_before_write(&heap, &kept.told, first + MPHEAP_MAX_PAGES * MPHEAP_PAGE_WORDS - 1);
+    IS(mpheap_dirty_pages(&heap), 0);
+    IS(kept.before, 0);
+    IS(kept.after, 0);
     mpheap_close(&heap);
 }
 

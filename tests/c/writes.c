@@ -15,7 +15,7 @@ typedef struct node {
 } node;
 
 static mpheap heap = MPHEAP_CLOSED;
-static mpheap_told told;
+static mpheap_told told = MPHEAP_TOLD;
 static uint8_t me;
 static node **top;
 static bool tells = true;

@@ -2,9 +2,11 @@
 import contextlib
 import io
 import os
+import shutil
 import subprocess
 
 from checker import Checker
+from words import faults_of
 
 # A document without a fault, which names, runs and compares.
 GOOD = """# A tree
@@ -62,6 +64,35 @@ def plant_all(judge, room):
         assert GOOD.count(old) == 1, old
         said, failed, _ = plant(os.path.join(room, str(number)), room, GOOD.replace(old, new))
         judge.judge(f"planted: {new or old + ' is left out'}", "" if failed and wanted in said else f"not noticed: {said}")
+
+
+# Of the words of ./mpheap: the file, what is said, and the text that is put in the place of another.
+WORDS = (
+    ("wrapper/table", "'./mpheap record --pages N FILE' is no form", "record; record;", "recorded; record;"),
+    ("wrapper/table", "'--pages N' takes 1 to 4097", "--pages N; 1 4096 1;", "--pages N; 1 4097 1;"),
+    ("wrapper/table", "its table lacks '--loud'", "    [--quiet];", "    [--loud]; ; says all\n    [--quiet];"),
+    ("wrapper/table", "lacks './mpheap test WHAT'", "package; ;", "    WHAT; ; which\npackage; ;"),
+    ("docs/SCRIPTS.md", "'--helpers H' takes 1 to 8", "1 to 8 |", "1 to 9 |"),
+    ("docs/SCRIPTS.md", "no command has '--step K'", "| `--steps K`", "| `--step K`"),
+    ("docs/REPLAY.md", "no form of wrapper/table", "[--why] [--json]", "[--how] [--json]"),
+)
+
+
+def plant_words(judge, top, folder, documents):
+    for document in ("wrapper/table", *documents):
+        os.makedirs(os.path.dirname(os.path.join(folder, document)), exist_ok=True)
+        shutil.copy(os.path.join(top, document), os.path.join(folder, document))
+    for name, wanted, old, new in WORDS:
+        path = os.path.join(folder, name)
+        with open(path, encoding="utf-8") as file:
+            text = file.read()
+        assert old in text, old
+        with open(path, "w", encoding="utf-8") as file:
+            file.write(text.replace(old, new))
+        said = "; ".join(faults_of(folder, documents))
+        judge.judge(f"planted: {new}", "" if wanted in said else f"not noticed: {said}")
+        with open(path, "w", encoding="utf-8") as file:
+            file.write(text)
 
 
 def plant_answer(judge):

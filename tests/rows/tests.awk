@@ -1,7 +1,7 @@
 # Writes the rows of a file as tests in the language. It is used with rows.awk and literals.awk.
 
 # Lines that come more than once are written out where that is at most so many.
-BEGIN { MOST = 40 }
+BEGIN { MOST = 16 }
 
 function open_row(name, pages) {
     printf "    Row {\n        name: \"%s\",\n        pages: %d,\n", name, pages
