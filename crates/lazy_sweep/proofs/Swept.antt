@@ -54,8 +54,6 @@ sweeps_none old marks map = record { before = map; words = λ f i there lt. refl
 pub sweeps_more : (old : Store) (marks : List Bool) (mid new : Store) → Sweeps old marks mid → Sweeps mid marks new → Sweeps old marks new
 sweeps_more old marks mid new a b = record { before = a.before; words = λ f i there lt. b.words f i there lt ∙ a.words f i (b.less.before f.base f there) lt; pages = b.pages ∙ a.pages; same = record { same = λ w. b.same.same w ∙ a.same.same w }; fewer = λ p h. a.fewer p (b.fewer p h); less = record { before = λ w f there. a.less.before w f (b.less.before w f there) }; waiting = λ w f is h. b.waiting w f (a.waiting w f is (b.fewer f.page h)) h; number = let x = a.number in let y = b.number in omega arith }
 
-}
-
 module _ (free : List Bool) (states : List PageState) (ready : List (List Bool)) (unswept : Unswept) (marks : List Bool) (free' : List Bool) (states' : List PageState) (ready' : List (List Bool)) (unswept' : Unswept) where
   pub some_page : (page : ℕ) → IsMap (length states) (found_in states) → Has unswept.pending page → SweepsOne free states ready unswept marks page free' states' ready' unswept' → SweepsSome free states ready unswept marks free' states' ready' unswept'
   some_page page map was x = record {

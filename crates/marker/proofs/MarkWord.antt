@@ -53,8 +53,6 @@ tells_none found bytes w is = record {
   none = λ e v h. subst (IsNoStray found bytes) (sym (one_in w v h)) is;
 }
 
-}
-
 pub tells_far : (pages bytes w : ℕ) (found : ℕ → Option Found) → bytes ≡ PAGE_BYTES * pages → w < 2 ^ 64 → bytes ≤ (w + (2 ^ 64 - FIRST_ADDRESS)) % 2 ^ 64 → TellsStray found (PAGE_BYTES * pages) (w ∷ []) false
 tells_far pages bytes w found b fits far = tells_none found (PAGE_BYTES * pages) w (inr (⊎_elim (λ low. inl low) (λ (high : FIRST_ADDRESS ≤ w). inr (omega (arith, b, fits, far, high))) (cases_lt w FIRST_ADDRESS)))
 

@@ -63,8 +63,6 @@ module _ (c : PlainContents) (sound : IsLaidOut c) (base : ℕ) (old new : List 
 pub flagged_none : (origin : ℕ) (flags : List Bool) → AreFlaggedBases origin [] flags []
 flagged_none origin flags = record { all = λ e has is. absurd (nothing_in e has); only = λ b has. absurd (nothing_in b has) }
 
-}
-
 pub flagged_not : (origin : ℕ) (flags : List Bool) (e : Extent) → (IsFlagged origin flags e.base → ⊥) → AreFlaggedBases origin (e ∷ []) flags []
 flagged_not origin flags e not = record {
   all = λ f has set. absurd (not (subst (λ (x : Extent). IsFlagged origin flags x.base) (sym (the_one e f has)) set));

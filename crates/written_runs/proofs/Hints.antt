@@ -58,8 +58,6 @@ pub read_all : (text bases rest : List ℕ) → IsReadTo text bases rest → len
 read_all text bases [] read none = record { whole = read.whole ∙ append-nil (bases_text bases); words = read.words }
 read_all text bases (b ∷ rest) read none = absurd (omega arith)
 
-}
-
 first_of_two : (text : List ℕ) (base n : ℕ) → AreBases text (base ∷ n ∷ []) → IsNumberAt text base (bases_text (n ∷ []))
 first_of_two text base n are = record { whole = are.whole ∙ append_assoc (codes " ") (decimal base) (bases_text (n ∷ [])); word = All-head IsWord base (n ∷ []) are.words; from = refl }
 
@@ -67,10 +65,6 @@ pub no_second : (text rest : List ℕ) (a : ℕ) → IsNumberAt text a rest → 
 no_second text rest a at none base n are =
     let same = (same_number text a base rest (bases_text (n ∷ [])) at (first_of_two text base n are)).rest in
     none n (record { whole = same ∙ append-nil (codes " " ++ decimal n); word = All-head IsWord n [] (All-tail IsWord base (n ∷ []) are.words) })
-
-}
-
-})
 
 -- A text that is that of no hint, by what hints there are.
 module _ (text : List ℕ) (some : text ≡ [] → ⊥) where
