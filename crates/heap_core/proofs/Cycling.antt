@@ -1,7 +1,8 @@
 -- The calls of the collector, over the core as a whole.
-use Rattle.std.proofs.Common.{◌≡◌, ℕ, ◌+◌, ◌≤◌, ◌%◌, true, false, List, [], length, Contains, ⊎_elim, inl, inr, refl, sym, ap, ◌∙◌, subst, arith}
+use Rattle.std.proofs.Common.{◌≡◌, ℕ, ◌+◌, ◌*◌, ◌≤◌, ◌%◌, true, false, List, [], length, Contains, ⊎_elim, inl, inr, refl, sym, ap, ◌∙◌, subst, arith}
 use Rattle.std.specs.Prelude.{count_by}
 use Rattle.std.proofs.lemmas.Bool.{false≢true}
+use Rattle.words.specs.declared.limits.TheConstants.{PAGE_WORDS}
 use Rattle.block_map.specs.FoundIn.{found_in}
 use Rattle.block_map.specs.Objects.{IsMap}
 use Rattle.heap_spec.specs.Heap.{Heap}
@@ -10,6 +11,7 @@ use Rattle.marker.specs.Closure.{AreClosed}
 use Rattle.marker.specs.Marking.{Marking, IsBlank, IsDone}
 use Rattle.marker.specs.Growth.{Traces}
 use Rattle.marker.specs.Mutations.{BeginsPartial}
+use Rattle.marker.specs.Work.{dirty_pages, newly_pages, entry_words}
 use Rattle.heap_view.specs.Shows.{IsMarkedBirth}
 use Rattle.roots.specs.Roots.{root_words_of}
 use Rattle.object_space.specs.Store.{Store, IsSwept}
@@ -46,7 +48,7 @@ stands_still c y swept s h = record {
 }
 
 pub begins : (c : CoreContents) (t : Store) (m : Marking) → Sweeps c.store c.cycle.marker.marks t → IsSwept t → IsBlank (length c.store.states) m
-    → BeginsCycle c (record { roots = c.roots; store = t; cycle = record { marker = m; is_marking = true; needs_full = false; count = c.cycle.count }; links = c.links })
+    → BeginsCycle c (record { roots = c.roots; store = t; cycle = record { marker = m; is_marking = true; needs_full = false; count = c.cycle.count; reads = c.cycle.reads }; links = c.links })
 begins c t m sweeps swept blank = record {
   needs_full = refl;
   stands = λ s h. stands_still (record c { store = t }) _ swept s (swept_stands c.roots c.store t c.cycle sweeps s h);
@@ -58,7 +60,7 @@ begins c t m sweeps swept blank = record {
 }
 
 pub begins_partial : (c : CoreContents) (t : Store) (m : Marking) → Sweeps c.store c.cycle.marker.marks t → IsSwept t → c.cycle.needs_full ≡ false → BeginsPartial c.cycle.marker m
-    → BeginsPartialCycle c (record { roots = c.roots; store = t; cycle = record { marker = m; is_marking = true; needs_full = c.cycle.needs_full; count = c.cycle.count }; links = c.links })
+    → BeginsPartialCycle c (record { roots = c.roots; store = t; cycle = record { marker = m; is_marking = true; needs_full = c.cycle.needs_full; count = c.cycle.count; reads = c.cycle.reads }; links = c.links })
 begins_partial c t m sweeps swept needs begins = record {
   stands = λ s h. stands_still (record c { store = t }) _ swept s (swept_stands c.roots c.store t c.cycle sweeps s h);
   roots = refl;
@@ -105,13 +107,14 @@ closes_marks c m map swept traces done closed = record {
   all = λ s h. all_marked c map swept s h m closed;
 }
 
-pub ends_cycle : (c : CoreContents) (t1 t' : Store) (m : Marking) (count n : ℕ) (ls' : List Link) → IsMap (length c.store.states) (found_in c.store.states) → IsSwept c.store → ForgetsUnreached c.store (root_words_of c.roots) c.cycle.marker n m.marks t1 → KeepsCells c.store t1 → IsPendingAfter t1.states m.marks t1.pending → IsDone m
+pub ends_cycle : (c : CoreContents) (t1 t' : Store) (m : Marking) (count reads n : ℕ) (ls' : List Link) → IsMap (length c.store.states) (found_in c.store.states) → IsSwept c.store → ForgetsUnreached c.store (root_words_of c.roots) c.cycle.marker n m.marks t1 → KeepsCells c.store t1 → IsPendingAfter t1.states m.marks t1.pending → IsDone m
     → length c.cycle.marker.dirty ≡ length c.store.states → Traces (found_in c.store.states) c.store.words (root_words_of c.roots) c.cycle.marker m
     → count ≡ (c.cycle.count + 1) % word_end → IsMap (length t1.states) (found_in t1.states) → TakesAlong (kept_in t1.states t1.pending m.marks) c.links t1 t' → ls' ≡ filter (stays (kept_in t1.states t1.pending m.marks)) c.links
-    → EndsCycle c n (record { roots = c.roots; store = t'; cycle = record { marker = m; is_marking = false; needs_full = c.cycle.needs_full; count = count }; links = ls' })
-ends_cycle c t1 t' m count n ls' map swept x cells pending done pages traces counts map' along same =
-    subst (λ z. EndsCycle c n (record { roots = c.roots; store = z; cycle = record { marker = m; is_marking = false; needs_full = c.cycle.needs_full; count = count }; links = ls' })) (sym (beside_is t1 t' along.beside))
-    (subst (λ row. EndsCycle c n (record { roots = c.roots; store = record t1 { words = t'.words }; cycle = record { marker = m; is_marking = false; needs_full = c.cycle.needs_full; count = count }; links = row })) (sym same)
+    → reads ≤ PAGE_WORDS * (dirty_pages c.cycle.marker + newly_pages (found_in c.store.states) c.cycle.marker m) + entry_words (found_in c.store.states) c.cycle.marker
+    → EndsCycle c n (record { roots = c.roots; store = t'; cycle = record { marker = m; is_marking = false; needs_full = c.cycle.needs_full; count = count; reads = reads }; links = ls' })
+ends_cycle c t1 t' m count reads n ls' map swept x cells pending done pages traces counts map' along same few =
+    subst (λ z. EndsCycle c n (record { roots = c.roots; store = z; cycle = record { marker = m; is_marking = false; needs_full = c.cycle.needs_full; count = count; reads = reads }; links = ls' })) (sym (beside_is t1 t' along.beside))
+    (subst (λ row. EndsCycle c n (record { roots = c.roots; store = record t1 { words = t'.words }; cycle = record { marker = m; is_marking = false; needs_full = c.cycle.needs_full; count = count; reads = reads }; links = row })) (sym same)
     (record {
       needs_full = refl;
       ends = record { roots = refl; phase = refl; count = counts; done = done; marked = x.marked };
@@ -119,17 +122,18 @@ ends_cycle c t1 t' m count n ls' map swept x cells pending done pages traces cou
       cells = record { less = cells.less; small = cells.small };
       pending = pending;
       strays = λ s h p has. ⊎_elim (λ old. inl old) (λ o. inr (has_stray c map swept s h (IsMarkedBirth s c.cycle.marker) (λ base inside. inside) pages p o)) (traces.strays p has);
+      reads = few;
     }))
 
 -- a collection sweeps, and drops the marks, first
-pub collects_all : (c : CoreContents) (t : Store) (dropped : Marking) (t1 t' : Store) (m : Marking) (count n : ℕ) (ls' : List Link) → IsMap (length t.states) (found_in t.states) → Sweeps c.store c.cycle.marker.marks t → IsSwept t → IsBlank (length t.states) dropped
+pub collects_all : (c : CoreContents) (t : Store) (dropped : Marking) (t1 t' : Store) (m : Marking) (count reads n : ℕ) (ls' : List Link) → IsMap (length t.states) (found_in t.states) → Sweeps c.store c.cycle.marker.marks t → IsSwept t → IsBlank (length t.states) dropped
     → ForgetsUnreached t (root_words_of c.roots) dropped n m.marks t1 → IsSwept t1 → IsDone m
     → Traces (found_in t.states) t.words (root_words_of c.roots) dropped m → count ≡ (c.cycle.count + 1) % word_end
     → IsMap (length t1.states) (found_in t1.states) → TakesAlong (kept_in t1.states t1.pending m.marks) c.links t1 t' → ls' ≡ filter (stays (kept_in t1.states t1.pending m.marks)) c.links
-    → CollectsAll c n (record { roots = c.roots; store = t'; cycle = record { marker = m; is_marking = false; needs_full = false; count = count }; links = ls' })
-collects_all c t dropped t1 t' m count n ls' map sweeps swept blank x swept' done traces counts map' along same =
-    subst (λ z. CollectsAll c n (record { roots = c.roots; store = z; cycle = record { marker = m; is_marking = false; needs_full = false; count = count }; links = ls' })) (sym (beside_is t1 t' along.beside))
-    (subst (λ row. CollectsAll c n (record { roots = c.roots; store = record t1 { words = t'.words }; cycle = record { marker = m; is_marking = false; needs_full = false; count = count }; links = row })) (sym same)
+    → CollectsAll c n (record { roots = c.roots; store = t'; cycle = record { marker = m; is_marking = false; needs_full = false; count = count; reads = reads }; links = ls' })
+collects_all c t dropped t1 t' m count reads n ls' map sweeps swept blank x swept' done traces counts map' along same =
+    subst (λ z. CollectsAll c n (record { roots = c.roots; store = z; cycle = record { marker = m; is_marking = false; needs_full = false; count = count; reads = reads }; links = ls' })) (sym (beside_is t1 t' along.beside))
+    (subst (λ row. CollectsAll c n (record { roots = c.roots; store = record t1 { words = t'.words }; cycle = record { marker = m; is_marking = false; needs_full = false; count = count; reads = reads }; links = row })) (sym same)
     (record {
       needs_full = refl;
       ends = record { roots = refl; phase = refl; count = counts; done = done; marked = x.marked };

@@ -1,6 +1,7 @@
 -- What calls of the collector do to a core.
-use Rattle.std.specs.Prelude.{◌≡◌, ℕ, ◌+◌, ◌%◌, ◌<◌, ◌≤◌, Bool, true, false, List, [], ◌∷◌, length, count_by, Contains, Some, Result, Ok, Err, if◌then◌else◌, ◌⊎◌}
+use Rattle.std.specs.Prelude.{◌≡◌, ℕ, ◌+◌, ◌*◌, ◌%◌, ◌<◌, ◌≤◌, Bool, true, false, List, [], ◌∷◌, length, count_by, Contains, Some, Result, Ok, Err, if◌then◌else◌, ◌⊎◌}
 use Rattle.words.specs.Bits.{Has}
+use Rattle.words.specs.declared.limits.TheConstants.{PAGE_WORDS}
 use Rattle.words.specs.declared.refusal.Refusal.{Refusal}
 use Rattle.words.specs.declared.refusal.Refusal.TheVariants.{WrongPhase, NeedsFull}
 use Rattle.heap_spec.specs.declared.reply.Reply.{Reply}
@@ -15,6 +16,7 @@ use Rattle.marker.specs.Invariant.{AreRootsMarked}
 use Rattle.marker.specs.Growth.{MarksWords, Traces}
 use Rattle.marker.specs.Entries.{Takes, TakesOff}
 use Rattle.marker.specs.Retracing.{Retraces}
+use Rattle.marker.specs.Work.{dirty_pages, newly_pages, entry_words}
 use Rattle.marker.specs.Mutations.{BeginsPartial}
 use Rattle.heap_view.specs.Shows.{IsMarkedBirth}
 use Rattle.roots.specs.Roots.{root_words_of}
@@ -132,7 +134,8 @@ pub record EndsMarking (old new : CoreContents) : Type 0 where
 
 -- A cycle ends: exactly the objects outside of the closure of the marks go, so many, the small ones only when their pages are
 -- swept. The pending pages are then the blocks with an unmarked allocated object. Each carried page was carried before, or a
--- stray word of an object of that closure stands on it.
+-- stray word of an object of that closure stands on it. Heap words were read at most as many as the pages have that were dirty,
+-- and those that newly marked objects cover, and as the entries had left.
 pub record EndsCycle (old : CoreContents) (n : ℕ) (new : CoreContents) : Type 0 where
   pub ends : EndsMarking old new
   pub needs_full : new.cycle.needs_full ≡ old.cycle.needs_full
@@ -140,6 +143,7 @@ pub record EndsCycle (old : CoreContents) (n : ℕ) (new : CoreContents) : Type 
   pub cells : KeepsCells old.store new.store
   pub pending : IsPendingAfter new.store.states new.cycle.marker.marks new.store.pending
   pub strays : (s : Heap) → StandsFor old s → (p : ℕ) → Has new.cycle.marker.carried p → Has old.cycle.marker.carried p ⊎ HasStray s (IsMarkedBirth s old.cycle.marker) p
+  pub reads : new.cycle.reads ≤ PAGE_WORDS * (dirty_pages old.cycle.marker + newly_pages (found_in old.store.states) old.cycle.marker new.cycle.marker) + entry_words (found_in old.store.states) old.cycle.marker
 
 -- A full collection: exactly the objects that are not reached go, so many, and no page is pending. On each carried page a stray
 -- word of a reached object stands.

@@ -9,12 +9,14 @@ use Rattle.block_map.specs.States.{IsLaid}
 use Rattle.object_space.specs.Store.{Store, AreEmptyPages, IsPendingRow, HasSoundPages, IsSwept}
 
 -- What a core has of the collector: what the marker has, whether a cycle is marking, whether a full cycle is needed before one
--- may begin with the marks of the last, and the count of collections.
+-- may begin with the marks of the last, the count of collections, and how many heap words the marker read for the last of
+-- these.
 pub record Cycle : Type 0 where
   pub marker : Marking
   pub is_marking : Bool
   pub needs_full : Bool
   pub count : ℕ
+  pub reads : ℕ
 
 -- What a core contains. A link names an object by its base.
 pub record CoreContents : Type 0 where

@@ -26,6 +26,7 @@ mod written;
 use links::Links;
 use marker::Marker;
 use object_space::ObjectSpace;
+use pages::Count;
 use roots::{RootWords, Roots};
 use std::alloc::Global;
 use std::marker::Model;
@@ -53,6 +54,8 @@ pub struct Core {
     count: u64,
     links: Links,
     root_words: RootWords,
+    // How many heap words the marker read for the last collection, which only contracts see.
+    reads: Count,
 }
 
 impl Model for Core {
@@ -61,9 +64,9 @@ impl Model for Core {
 
     ghost Value = { CoreContents };
 
-    ghost view = { λ c. record { roots = c.roots; store = c.objects; cycle = record { marker = c.marker; is_marking = c.is_marking; needs_full = c.needs_full; count = c.count }; links = c.links } };
+    ghost view = { λ c. record { roots = c.roots; store = c.objects; cycle = record { marker = c.marker; is_marking = c.is_marking; needs_full = c.needs_full; count = c.count; reads = c.reads.n }; links = c.links } };
 
-    ghost invariant = { λ c. IsLegalCore (record { roots = c.roots; store = c.objects; cycle = record { marker = c.marker; is_marking = c.is_marking; needs_full = c.needs_full; count = c.count }; links = c.links }) };
+    ghost invariant = { λ c. IsLegalCore (record { roots = c.roots; store = c.objects; cycle = record { marker = c.marker; is_marking = c.is_marking; needs_full = c.needs_full; count = c.count; reads = c.reads.n }; links = c.links }) };
 }
 
 impl Core {
@@ -111,6 +114,7 @@ impl Core {
             count: 0,
             links: Links::new(),
             root_words,
+            reads: Count::zero(),
         })
     }
 

@@ -22,3 +22,4 @@ pub mod Putting
 pub mod Along
 pub mod Many
 pub mod Freed
+mod Walks

@@ -103,7 +103,9 @@ impl Core {
         Ok(1)
     }
 
-    /// Ends the cycle: marks on until nothing is left to read, and forgets the objects that aren't marked. Answers how many.
+    /// Ends the cycle: marks on until nothing is left to read, and forgets the objects that aren't marked. Answers how many. It
+    /// reads at most the words of the pages that were dirty and of those that newly marked objects cover, and what the
+    /// entries had left.
     pub fn finish(&mut self) -> Result<u64, Refusal>
         ensures { IsGrantedInPhase true self.old result self.new (λ n. EndsCycle self.old n self.new) }
     {
@@ -111,9 +113,10 @@ impl Core {
             return Err(Refusal::WrongPhase);
         }
         self.roots.write_words(&mut self.root_words);
+        let root_words = self.root_words.as_slice();
         let count = self
             .objects
-            .finish(&mut self.marker, self.root_words.as_slice());
+            .finish(&mut self.marker, root_words, &mut self.reads);
         self.objects.take_along(&self.marker, &mut self.links);
         self.is_marking = false;
         self.count = self.count.wrapping_add(1);
@@ -129,9 +132,10 @@ impl Core {
         self.objects.sweep_all(&self.marker);
         self.marker.begin(used);
         self.roots.write_words(&mut self.root_words);
+        let root_words = self.root_words.as_slice();
         let count = self
             .objects
-            .collect(&mut self.marker, self.root_words.as_slice());
+            .collect(&mut self.marker, root_words, &mut self.reads);
         self.objects.take_along(&self.marker, &mut self.links);
         self.is_marking = false;
         self.needs_full = false;

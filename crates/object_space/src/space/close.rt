@@ -1,30 +1,42 @@
 //! Closing the marks, by the calling thread or with helpers.
-ghost use Rattle.std.specs.Prelude.{◌≡◌, length};
+ghost use Rattle.std.specs.Prelude.{◌≡◌, ◌+◌, ◌*◌, ◌≤◌, length};
+ghost use Rattle.words.specs.declared.limits.TheConstants.{PAGE_WORDS};
 ghost use Rattle.block_map.specs.FoundIn.{found_in, IsLawful};
 ghost use Rattle.marker.specs.Closure.{AreClosed};
 ghost use Rattle.marker.specs.Growth.{Traces};
 ghost use Rattle.marker.specs.Invariant.{DirtyPageInvariant};
 ghost use Rattle.marker.specs.Marking.{IsDone};
+ghost use Rattle.marker.specs.Work.{dirty_pages, newly_pages, entry_words};
 
 use super::ObjectSpace;
 use final_pause::{Gate, Helpers, close_marks, close_marks_with};
 use marker::Marker;
-use pages::Reader;
+use pages::{Count, Reader};
 use std::alloc::Global;
 use std::sync::Wait;
 use std::thread::Threads;
 
+// How many heap words a reader has read: a count that stays when the reader is gone.
+fn reads_of(reader: &Reader) -> Count
+    ensures { result.n ≡ reader.now.reads }
+{
+    Count {}
+}
+
 impl ObjectSpace {
-    // Marks all that the roots and the marks reach.
-    pub(super) fn close(&self, marker: &mut Marker, roots: &[u64])
+    // Marks all that the roots and the marks reach, and answers how many heap words it read for that, which only contracts
+    // see.
+    pub(super) fn close(&self, marker: &mut Marker, roots: &[u64]) -> Count
         requires pages { length marker.old.dirty ≡ length self.now.states }
         requires invariant { DirtyPageInvariant (found_in self.now.states) self.now.words marker.old }
         ensures closure { AreClosed (found_in self.now.states) self.now.words roots.now marker.old marker.new }
         ensures done { IsDone marker.new }
         ensures traces { Traces (found_in self.now.states) self.now.words roots.now marker.old marker.new }
+        ensures reads { result.n ≤ PAGE_WORDS * (dirty_pages marker.old + newly_pages (found_in self.now.states) marker.old marker.new) + entry_words (found_in self.now.states) marker.old }
     {
         let mut reader = Reader::new(&self.memory);
         close_marks(marker, &self.map, &mut reader, roots);
+        reads_of(&reader)
     }
 
     /// Marks all that the roots and the marks reach, with helpers in threads of their own.

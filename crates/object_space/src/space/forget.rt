@@ -1,11 +1,13 @@
 //! The end of a cycle: what is not reached is forgotten, page by page. The marks of a block are those of allocated objects,
 //! so a block with as many marks as allocated cells has nothing to forget, and none of its objects is looked at; any other
 //! is swept later. Large objects go at once.
-ghost use Rattle.std.specs.Prelude.{◌≡◌, ◌<◌, length};
+ghost use Rattle.std.specs.Prelude.{◌≡◌, ◌+◌, ◌*◌, ◌<◌, ◌≤◌, length};
+ghost use Rattle.words.specs.declared.limits.TheConstants.{PAGE_WORDS};
 ghost use Rattle.block_map.specs.FoundIn.{found_in, IsLawful};
 ghost use Rattle.block_map.specs.States.{IsCut, state_at};
 ghost use Rattle.marker.specs.Marking.{AreMarksObjects, IsDone};
 ghost use Rattle.marker.specs.Growth.{Traces};
+ghost use Rattle.marker.specs.Work.{dirty_pages, newly_pages, entry_words};
 ghost use Rattle.marker.specs.Invariant.{DirtyPageInvariant, CarriedPageInvariant};
 ghost use Rattle.object_space.specs.Store.{IsSwept};
 ghost use Rattle.object_space.specs.Kept.{IsPendingAfter};
@@ -14,6 +16,7 @@ ghost use Rattle.object_space.specs.Sweeps.{ForgetsUnreached, ForgetsLazily, Kee
 
 use super::ObjectSpace;
 use marker::Marker;
+use pages::Count;
 use words::PageNo;
 
 impl ObjectSpace {
@@ -79,8 +82,10 @@ impl ObjectSpace {
         count
     }
 
-    /// Ends a cycle: what the roots and the marks reach is marked, and the other objects are forgotten. Answers how many.
-    pub fn finish(&mut self, marker: &mut Marker, roots: &[u64]) -> u64
+    /// Ends a cycle: what the roots and the marks reach is marked, and the other objects are forgotten. Answers how many. The
+    /// count becomes that of the heap words that the marker read for it: at most those of the pages that were dirty and of
+    /// those that newly marked objects cover, and what the entries had left.
+    pub fn finish(&mut self, marker: &mut Marker, roots: &[u64], reads: &mut Count) -> u64
         requires pages { length marker.old.dirty ≡ length self.old.states }
         requires swept { IsSwept self.old }
         requires objects { AreMarksObjects (found_in self.old.states) marker.old }
@@ -93,15 +98,16 @@ impl ObjectSpace {
         ensures pages { length marker.new.dirty ≡ length self.new.states }
         ensures carries { CarriedPageInvariant (found_in self.old.states) self.old.words marker.old → CarriedPageInvariant (found_in self.new.states) self.new.words marker.new }
         ensures objects { AreMarksObjects (found_in self.new.states) marker.new }
+        ensures reads { reads.new.n ≤ PAGE_WORDS * (dirty_pages marker.old + newly_pages (found_in self.old.states) marker.old marker.new) + entry_words (found_in self.old.states) marker.old }
         ensures lawful { IsLawful self.old.states }
     {
         self.laws();
-        self.close(marker, roots);
+        *reads = self.close(marker, roots);
         self.forget_lazily(marker)
     }
 
     /// The same, but all that is forgotten is swept now.
-    pub fn collect(&mut self, marker: &mut Marker, roots: &[u64]) -> u64
+    pub fn collect(&mut self, marker: &mut Marker, roots: &[u64], reads: &mut Count) -> u64
         requires pages { length marker.old.dirty ≡ length self.old.states }
         requires swept { IsSwept self.old }
         requires objects { AreMarksObjects (found_in self.old.states) marker.old }
@@ -113,9 +119,10 @@ impl ObjectSpace {
         ensures pages { length marker.new.dirty ≡ length self.new.states }
         ensures carries { CarriedPageInvariant (found_in self.old.states) self.old.words marker.old → CarriedPageInvariant (found_in self.new.states) self.new.words marker.new }
         ensures objects { AreMarksObjects (found_in self.new.states) marker.new }
+        ensures reads { reads.new.n ≤ PAGE_WORDS * (dirty_pages marker.old + newly_pages (found_in self.old.states) marker.old marker.new) + entry_words (found_in self.old.states) marker.old }
         ensures lawful { IsLawful self.old.states }
     {
-        let count = self.finish(marker, roots);
+        let count = self.finish(marker, roots, reads);
         self.sweep_all(marker);
         count
     }
