@@ -33,11 +33,19 @@ void GC_set_disable_automatic_collection(int on)
     mpgc_figures.next = 0;
 }
 int GC_get_disable_automatic_collection(void) { return is_automatic_off; }
-void GC_disable(void) { GC_dont_gc++; }
+// Under the lock, so that no step of the collector's thread is still under way when the first returns.
+void GC_disable(void)
+{
+    GC_alloc_lock();
+    GC_dont_gc++;
+    GC_alloc_unlock();
+}
 void GC_enable(void)
 {
+    GC_alloc_lock();
     GC_dont_gc--;
     mpgc_figures.next = 0;
+    GC_alloc_unlock();
 }
 int GC_is_disabled(void) { return GC_dont_gc != 0; }
 

@@ -24,8 +24,19 @@ static int is_kept(GC_word hidden)
 #endif
 }
 
-/* A conservative heap may keep some objects too long, and bdwgc's is generational in incremental mode: so many of 200 at most. */
+/* A conservative heap may keep some objects too long, and bdwgc's is generational in incremental mode: fewer of 200 than so many. */
+#ifdef OTHER
 enum { STRAY = 60 };
+#else
+enum { STRAY = 10 };
+#endif
+
+/* What is to be let go is made with no collection between: what one took would be given out again, and count as kept. */
+#define UNDISTURBED(make) do { \
+        GC_disable(); \
+        make; \
+        GC_enable(); \
+    } while (0)
 
 /* Overwrites what calls before have left on the stack. */
 static NOINLINE void clear_stack(void)
@@ -127,11 +138,22 @@ static NOINLINE void kinds(void)
     clear_stack();
     GC_gcollect();
     CHECK(count_kept() == 200);
-    name_all(1);
+    UNDISTURBED(name_all(1));
     clear_stack();
     GC_gcollect();
     CHECK(count_kept() < STRAY);
     memset(keepers, 0, sizeof keepers);
+}
+
+/* Objects that were made while a cycle marks, and that nothing names: the collection that the program asks for takes them too. */
+static NOINLINE void while_it_marks(void)
+{
+    GC_start_incremental_collection();
+    UNDISTURBED(name_all(1));
+    memset(keepers, 0, sizeof keepers);
+    clear_stack();
+    GC_gcollect();
+    CHECK(count_kept() < STRAY);
 }
 
 static NOINLINE void hide_uncollectable(void)
@@ -274,7 +296,7 @@ static NOINLINE void ranges(void)
     GC_gcollect();
     CHECK(count_kept() < STRAY);
     GC_exclude_static_roots(excluded, excluded + 200);
-    fill(excluded, 200);
+    UNDISTURBED(fill(excluded, 200));
     clear_stack();
     GC_gcollect();
     CHECK(count_kept() < STRAY);
@@ -456,6 +478,7 @@ int main(void)
     texts();
     reallocs();
     kinds();
+    while_it_marks();
     uncollectable();
     aligned();
     collections();
@@ -472,6 +495,7 @@ int main(void)
     texts();
     reallocs();
     kinds();
+    while_it_marks();
     pairs();
     return check_ends();
 }
