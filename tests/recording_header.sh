@@ -23,8 +23,8 @@ compile() { compiles "$1" cc -std=c11 "${warnings[@]}" "${@:3}" "$2" -o "$room/$
 
 standards_agree() {
     local standard file
-    echo '#include "mpheap_record.h"' >"$room/alone.c"
-    for file in "$room/alone.c" "$here"/*.c "$top/examples/c/recorded_collector.c"; do
+    for file in mpheap_record mpheap_record_run; do echo "#include \"$file.h\"" >"$room/$file.c"; done
+    for file in "$room"/mpheap_record*.c "$here"/*.c "$top/examples/c/recorded_collector.c"; do
         for standard in c99 c11 c17; do
             compiles "$(basename "$file") as $standard" cc -std=$standard -O2 "${warnings[@]}" -c "$file" -o "$room/part.o"
         done
@@ -37,7 +37,7 @@ standards_agree() {
 
 # No function asks for memory: of the C library all of them call these alone.
 no_memory_is_asked_for() {
-    cc -std=c11 -O0 -fno-builtin -fkeep-inline-functions -I"$top/include" -c "$room/alone.c" -o "$room/alone.o"
+    cc -std=c11 -O0 -fno-builtin -fkeep-inline-functions -I"$top/include" -c "$room/mpheap_record.c" -o "$room/alone.o"
     is "what is called" "__errno_location memchr memcpy memset raise signal strlen write" \
         "$(nm -u "$room/alone.o" | awk '$2 != "_GLOBAL_OFFSET_TABLE_" { sub("__sysv_", ""); print $2 }' | sort | xargs)"
 }

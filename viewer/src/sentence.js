@@ -16,10 +16,12 @@ function sentence() {
   return capital(parts.join('; ')) + '.';
 }
 
-// What the checker says of a line that it refuses. Objects that it names by their bases have their numbers added.
-function ofRefused({ no, says }) {
+// What the checker says of a line that it refuses, as it says it. Behind what it says first, objects that are named by
+// their bases have their numbers added.
+function ofRefused({ no, says: [first, ...more] }) {
   const numbered = (said, address) => (heap.find(+address) ? `${said} (${told(+address)})` : said);
-  return `Line ${no} of the run is not legal: ${says.join('; ').replace(/\bat (\d+)/g, numbered)}.`;
+  const rest = more.map((text) => `; ${text.replace(/\bat (\d+)/g, numbered)}`).join('');
+  return `line ${no}: ${first}${rest}. So this line of the run is not legal.`;
 }
 
 function ofPhase(record) {

@@ -52,6 +52,7 @@ export class Chromium {
     const { sessionId } = await this.call('Target.attachToTarget', { targetId, flatten: true });
     const page = new Page(this, targetId, sessionId);
     for (const domain of ['Runtime', 'Log', 'Page']) await page.call(`${domain}.enable`);
+    await page.call('Performance.enable', { timeDomain: 'threadTicks' });
     await page.resize(width, height);
     const features = [{ name: 'prefers-color-scheme', value: theme }];
     await page.call('Emulation.setEmulatedMedia', { features });
@@ -131,9 +132,19 @@ class Page {
     return this.browser.events.filter(isOurs).map(({ params }) => JSON.stringify(params).slice(0, 400));
   }
 
+  // the window as it is painted, as PNG in base64
+  async picture() {
+    return (await this.call('Page.captureScreenshot', { format: 'png' })).data;
+  }
+
   async shot(file) {
-    const { data } = await this.call('Page.captureScreenshot', { format: 'png' });
-    writeFileSync(file, Buffer.from(data, 'base64'));
+    writeFileSync(file, Buffer.from(await this.picture(), 'base64'));
+  }
+
+  // seconds of processor time that the page's thread took so far
+  async seconds() {
+    const { metrics } = await this.call('Performance.getMetrics');
+    return metrics.find(({ name }) => name === 'TaskDuration').value;
   }
 
   async pdf(file) {

@@ -1,10 +1,9 @@
 // Whether everything stands in the window, and nothing on anything else, in windows of four sizes. What is asked is told
 // by boxes, as the browser has them.
 import assert from 'node:assert/strict';
-import { sleep } from './chromium.mjs';
 
 // At 200 % zoom a window of 1440 by 900 pixels has half as many of the page's own each way.
-const FRAMES = [[1440, 900, 1], [800, 900, 1], [400, 800, 1], [720, 450, 2]];
+export const FRAMES = [[1440, 900, 1], [800, 900, 1], [400, 800, 1], [720, 450, 2]];
 
 // Elements of the page that are seen, without parts of pictures and what only readers of the screen have.
 const HELPERS = `(() => {
@@ -68,12 +67,18 @@ const TOPS = `['say', 'scroll', 'legend', 'info', 'list', 'plot'].map((id) => {
   return [id, top, bottom];
 })`;
 
+// Gives the window a size, and waits until the page has taken it.
+export async function frame(page, width, height, zoom) {
+  await page.resize(width, height, zoom);
+  await page.waitFor(`innerWidth === ${width} && devicePixelRatio === ${zoom}`);
+  await page.run('new Promise((done) => requestAnimationFrame(() => requestAnimationFrame(done)))');
+}
+
 export async function frames(page, { n, lines }) {
   await page.run(HELPERS);
   const refused = lines.at(-1)?.no ? n : Math.floor(n * 0.7);
   for (const [width, height, zoom] of FRAMES) {
-    await page.resize(width, height, zoom);
-    await sleep(200);
+    await frame(page, width, height, zoom);
     for (const line of new Set([Math.floor(n / 2), refused])) {
       await page.run(`viewer.go(${line})`);
       await page.run(`nextObject(1)`);
@@ -84,7 +89,7 @@ export async function frames(page, { n, lines }) {
       if (width <= 900) await stacked(page, where);
     }
   }
-  await page.resize(1400, 900);
+  await frame(page, 1400, 900, 1);
   await page.key('Escape');
 }
 

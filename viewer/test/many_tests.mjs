@@ -1,4 +1,5 @@
-// Of a run of 100,000 lines: what the page keeps of it, and how much work a step is, by counts and not by time.
+// Of a run of 100,000 lines: what the page keeps of it, and how much work a step is, by counts; and the time that it takes to
+// open and to step, of the processor, so that other work on the machine adds none.
 import assert from 'node:assert/strict';
 import { expectedAfter } from './many_lines.mjs';
 
@@ -58,4 +59,23 @@ async function statesAreCounted(page) {
   }
 }
 
-export const manyTests = { keepsLittle, stepsAreSmall, statesAreCounted };
+// It opens in less than two seconds, and a step is drawn in less than a twentieth.
+async function takesLittleTime(page) {
+  const opened = await page.seconds();
+  const steps = 40;
+  const frames = `(async () => {
+    for (let i = 0; i < ${steps}; i++) {
+      viewer.go(viewer.at() + 1);
+      await new Promise(requestAnimationFrame);
+    }
+  })()`;
+  await page.run('viewer.go(50000)');
+  const before = await page.seconds();
+  await page.run(frames);
+  const step = ((await page.seconds()) - before) / steps;
+  console.log(`viewer: many lines: opened in ${opened.toFixed(2)} s of the processor, a step in ${(1000 * step).toFixed(1)} ms`);
+  assert.ok(opened < 2, `opened in ${opened} s`);
+  assert.ok(step < 0.05, `a step in ${step} s`);
+}
+
+export const manyTests = { keepsLittle, takesLittleTime, stepsAreSmall, statesAreCounted };

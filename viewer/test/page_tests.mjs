@@ -7,6 +7,7 @@ import { inspected, pointed } from './inspect_tests.mjs';
 import { keyTests } from './key_tests.mjs';
 import { legendTells, oneMeaning } from './legend_tests.mjs';
 import { contrasts, namesAndRoles } from './access_tests.mjs';
+import { windows } from './window_tests.mjs';
 
 // The trace as the tests see it, with its states after some lines that a walk back and forth comes by.
 export function read(text) {
@@ -24,11 +25,9 @@ const is = async (page, line, what) => assert.equal(await at(page), line, what);
 async function addresses(page, { n }) {
   await page.run('viewer.go(1)');
   await page.key('End');
-  await sleep(300);
-  assert.equal(await page.run('location.hash'), `#line=${n}`, 'the address follows');
+  await page.waitFor(`location.hash === '#line=${n}'`);
   await page.run('location.hash = "#line=2"');
-  await sleep(60);
-  await is(page, 2, 'the address leads');
+  await page.waitFor('viewer.at() === 2');
 }
 
 async function keys(page, { n }) {
@@ -72,10 +71,9 @@ async function controls(page, { n }) {
 async function plays(page) {
   await page.key('Home');
   await page.key(' ');
-  await sleep(1500);
+  await page.waitFor('viewer.at() >= 1');
   await page.key(' ');
   const played = await at(page);
-  assert.ok(played >= 1, 'it plays');
   await sleep(300);
   await is(page, played, 'it stops');
 }
@@ -168,9 +166,10 @@ async function bandsFit(page, { about, n }) {
 
 // A page whose address names no line opens at the line that is refused, says why, and picks what that is about.
 export async function opensAtRefused(page, { n, lines, states }) {
-  const { says, about } = lines[n - 1];
+  const { no, says, about } = lines[n - 1];
   await is(page, n, 'the line that is refused');
   const said = await page.run(`$('say').title`);
+  assert.ok(said.startsWith(`line ${no}: ${says[0]}`), `it begins as replay does: ${said}`);
   for (const sentence of says) {
     const parts = sentence.split(/(?<=at \d+)/);
     assert.ok(parts.every((part) => said.includes(part)), `it says '${sentence}': ${said}`);
@@ -200,7 +199,7 @@ async function quiet(page) {
 export function testsOf({ about, lines }) {
   const tests = {
     addresses, keys, controls, plays, states, rows, pointed, inspected, bandsFit, exported, ...keyTests, legendTells, oneMeaning,
-    namesAndRoles, contrasts, frames,
+    namesAndRoles, contrasts, frames, windows,
   };
   if (lines.some(({ c }) => c.startsWith('gc '))) tests.collectorKeys = collectorKeys;
   if (about.pages > 64) tests.mapOpens = mapOpens;
