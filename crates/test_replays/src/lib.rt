@@ -4,4 +4,6 @@
 #[cfg(test)]
 mod judged;
 #[cfg(test)]
+mod orders;
+#[cfg(test)]
 mod scripts_of_all_calls;
