@@ -196,7 +196,8 @@ words_of_the_wrapper_are_told() {
     refuses "'package' lacks its DIR" package
     refuses "'install' lacks its PREFIX" install
     refuses "'b' is a second PREFIX, behind 'a'" install a b
-    refuses "'completion' takes no word 'zsh'" completion zsh
+    refuses "'zsh' is no word for 'SHELL', only bash: the nearest is 'bash'" completion zsh
+    refuses "'bash' is a second SHELL, behind 'bash'" completion bash bash
     refuses "'build' has no option '--pages'" build --pages 4
     refuses "'rnu' is no word for 'COMMAND', only run, threads, stress, record, replay, draw, build, test, package, install, completion, manual, help: the nearest is 'run'" help rnu
 }

@@ -22,6 +22,8 @@ write_runs() {
         "gc collect => 1 - 4112" "# in --from 4096 --bytes 4096" >"$room/taken"
     printf '%s\n' "attach" >"$room/none"
     : >"$room/empty"
+    printf '%s\n' "# 8123: 0 load 3 1 0 => 24" >"$room/comments"
+    printf '%s\n' "attach => mutator 0" "# in --from 4096 --bytes 33554432" >"$room/large"
     loaded="line 3: word 0 of object 8192 (0x2000, allocated at line 2, 2 words) was loaded as 5, but it is 0, since nothing was stored there yet"
 }
 
@@ -40,6 +42,13 @@ not.there: read fault"
     call --places any --from 4096 --bytes 4096 good wrong
     ends "a range for all" 1 "good: legal, 2 lines
 wrong: line 2: the new object at 8192 (0x2000) of 2 words lies outside of the heap, which has 4096 bytes from 4096 on"
+    call --places any comments empty none
+    ends "files without a range" 2 "comments: no lines
+empty: no lines
+none: the run doesn't say the range of its heap, as '# in --from ADDRESS --bytes N': '--pages' or '--bytes' has to"
+    call --places any large
+    ends "a range that is too large" 2 ""
+    is "a range that is too large: what is said" "mpheap: '33554432' is no number for '--bytes': 4096 to 16777216, in decimal, a multiple of 4096" "$(tail -n 1 "$room/err")"
     call --places none good
     is "words that the program doesn't take" "2 " "$status $out"
 }
@@ -63,6 +72,9 @@ the_same_is_told_as_data() {
             "word 0 of object 4096 points into object 4112 (0x1010, allocated at line 3, 2 words) since line 4"],
         "rule": "a collection forgets so many distinct objects that nothing reaches, by their bases: the end of a cycle at least all that the cycle did not touch, a full collection all of them, whether they are named or not",
         "answer": "0", "wrong": "the object at 4112 has to stay: word 0 of the object at 4096 points into it"}]'
+    out=$("$top/mpheap" replay --json --places any --from 4096 --pages 1 /dev/stdin <"$room/good" 2>"$room/err")
+    status=$?
+    data_is "standard input" 0 '[{"file": "/dev/stdin", "status": 0, "verdict": "legal", "lines": 2}]'
     call --json --pages 1 none empty not.there
     data_is "no run" 2 '[{"file": "none", "status": 2, "verdict": "bad", "line": 1, "first": "not a line of a run"},
         {"file": "empty", "status": 2, "verdict": "no lines"}, {"file": "not.there", "status": 1, "verdict": "fault", "fault": "read fault"}]'

@@ -38,9 +38,10 @@ number_of_version() {
     if is_package; then sed -n '1s/^mpheap //p' "$here/version"; else sed -n 's/^Version: //p' "$here/c/install"; fi
 }
 
-# commit: that of these sources, and whether they are otherwise.
+# commit: that of these sources, and whether they are otherwise; of a package, that of which it was made.
 commit() {
     local at changed
+    ! is_package || { sed -n 's/^commit: //p' "$here/version" && return; }
     { [[ -e $here/.git ]] && at=$(git -C "$here" rev-parse HEAD 2>/dev/null); } || { echo "unknown" && return; }
     changed=$(git -C "$here" status --porcelain 2>/dev/null)
     echo "$at${changed:+, and changed since}"

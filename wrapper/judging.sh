@@ -1,4 +1,4 @@
-# shellcheck shell=bash disable=SC2154 # (mpheap and wrapper/words.sh have the other names)
+# shellcheck shell=bash disable=SC2034,SC2154 # (mpheap and wrapper/words.sh have the other names)
 # Part of the wrapper mpheap, read by it: `replay` of many runs, as data, or of a run that is still being written. Each verdict is that of the
 # program on a file, or on the lines that a file has so far: when these have a wrong line, no line behind them makes it right.
 
@@ -9,11 +9,13 @@ is_many() {
 }
 
 judge_many() {
-    local one worst=0 is_told='' status
+    local one worst=0 status build words runner=()
     make_room
+    program=replay
     if [[ -v given[--follow] ]]; then
         [[ ${#operands[@]} = 1 ]] || bad_words "'--follow' takes one FILE"
         look_at_file "$file"
+        find_runner
         follow_run "$file"
     fi
     for one in "${operands[@]}"; do
@@ -24,38 +26,62 @@ judge_many() {
     answers "$worst"
 }
 
-# range_in FILE: the range that a recorder says in its last comment, where the words say none.
+# range_in FILE: the range that a recorder says in its last comment, as words for `replay`; of a file of comments alone any is right.
 range_in() {
-    [[ -z ${given[--pages]-}${given[--bytes]-} && -f $1 ]] || return 0
-    sed -n 's/^# in --from \([0-9]*\) --bytes \([0-9]*\)$/--from=\1 --bytes=\2/p' "$1" | tail -n 1
-}
-
-# words_for FILE: puts the words of its replay into `words`.
-words_for() {
-    local name range
-    words=(replay)
-    for name in --pages --bytes --places --from --why; do
-        if [[ -v given[$name] ]]; then words+=("$name${given[$name]:+=${given[$name]}}"); fi
-    done
-    read -ra range <<<"$(range_in "$1")"
-    words+=("${range[@]}" -- "$1")
-}
-
-# judge_run FILE: what the program says is in the room, and its status in $status. What the wrapper says is passed on once.
-judge_run() {
-    local words
-    status=0
-    : >"$room/verdict"
-    if (look_at_file "$1") 2>"$room/said"; then
-        words_for "$1"
-        "$here/mpheap" "${words[@]}" >"$room/verdict" 2>"$room/said" </dev/null &
-        wait_for_child $! || status=$?
+    [[ -f $1 && -r $1 ]] || return 0
+    if grep -qv '^#' "$1"; then
+        sed -n 's/^# in --from \([0-9]*\) --bytes \([0-9]*\)$/--from \1 --bytes \2/p' "$1" | tail -n 1
     else
-        status=1
+        echo "--pages 1"
     fi
-    if [[ -z $is_told || ! -s $room/verdict ]]; then cat "$room/said" >&2; fi
-    is_told=yes
 }
+
+# words_for FILE: puts the words of its replay into `words`, with the range that the file says where the words say none.
+words_for() {
+    local name range=()
+    [[ -n ${given[--pages]-}${given[--bytes]-} ]] || read -ra range <<<"$(range_in "$1")"
+    words=()
+    for name in --pages --bytes --places --from --why; do
+        if [[ -v given[$name] ]]; then words+=("$name" ${given[$name]:+"${given[$name]}"}); fi
+    done
+    words+=("${range[@]}" "$(as_path "$1")")
+}
+
+# look_at_run FILE: it can be read, and says a range that the program takes, where the words say none. What is wrong is said last.
+look_at_run() {
+    local -A given=()
+    local operands=() file said
+    look_at_file "$1"
+    if ! is_in "--pages" "${words[*]}" && ! is_in "--bytes" "${words[*]}"; then
+        say "the run doesn't say the range of its heap, as '# in --from ADDRESS --bytes N': '--pages' or '--bytes' has to"
+        exit 2
+    fi
+    said=$( (read_words replay "${words[@]}") 2>&1) || { head -n 1 <<<"$said" >&2 && exit 2; }
+}
+
+# find_runner: what judges each run: a build of `replay`, or where none can be kept this wrapper.
+find_runner() {
+    find_build
+    runner=("$build")
+    [[ -n $build ]] || runner=("$here/mpheap" replay)
+}
+
+# judge_run FILE: what the program prints and says is in the room, and its status in $status.
+judge_run() {
+    status=0
+    : >"$room/answer"
+    words_for "$1"
+    if (look_at_run "$1") 2>"$room/said"; then
+        [[ ${#runner[@]} != 0 ]] || find_runner
+        run_beside "$1" "${runner[@]}" "${words[@]}" || status=$?
+    else
+        status=$?
+    fi
+    cat "$room/said" >&2
+}
+
+# fault: why the program answers nothing.
+fault() { tail -n 1 "$room/said" | sed 's/^mpheap: //'; }
 
 # tell_run FILE: what was said of it, all of it where it is the only one.
 tell_run() {
@@ -63,16 +89,16 @@ tell_run() {
     if [[ -v given[--json] ]]; then
         tell_run_data "$1"
     elif [[ ${#operands[@]} = 1 ]]; then
-        cat "$room/verdict"
+        cat "$room/answer"
     else
-        first=$(head -n 1 "$room/verdict")
-        echo "$1: ${first:-$(tail -n 1 "$room/said")}"
+        first=$(head -n 1 "$room/answer")
+        echo "$1: ${first:-$(fault)}"
     fi
 }
 
 # tell_run_data FILE: the same as an object of JSON, in a line.
 tell_run_data() {
-    [[ -s $room/verdict ]] || tail -n 1 "$room/said" >"$room/verdict"
+    [[ -s $room/answer ]] || fault >"$room/answer"
     FILE=$1 awk -v status="$status" '
         function text(of,    at, byte, out) {
             for (at = 1; at <= length(of); at++) {
@@ -101,12 +127,12 @@ tell_run_data() {
                 if (at <= NR) key("wrong", text(said[at]))
             }
             print "}"
-        }' "$room/verdict"
+        }' "$room/answer"
 }
 
 # is_right: nothing is wrong so far.
 is_right() {
-    case $(head -n 1 "$room/verdict") in
+    case $(head -n 1 "$room/answer") in
         "legal, "* | "no lines") true ;;
         *) false ;;
     esac

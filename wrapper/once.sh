@@ -12,7 +12,7 @@ is_only_once() {
     [[ -f $(once "$1") && $(cat "$(once "$1")") = "$(rt version)" ]]
 }
 
-# read_script WHAT: puts all that descriptor 3 has into this run's folder, or says that WHAT can't be read.
+# read_script WHAT: puts all that descriptor 3 has into the file `script` of this run's folder, or says that WHAT can't be read.
 read_script() {
     cat <&3 3<&- >"$room/script" 2>"$room/said" &
     wait_for_child $! || bad_file "$1 can't be read: $(cat "$room/said")"

@@ -1,51 +1,59 @@
 # shellcheck shell=bash disable=SC2154 # (mpheap has the other names)
-# Part of the wrapper mpheap, read by it: which build of a program is run, how it is run, and the page of `draw`, which is its trace joined with
-# the page in viewer/.
+# Part of the wrapper mpheap, read by it: which build of a program is run, and how it is run.
 
-# titled TRACE: the trace, which the program calls a script or a run, by the name of FILE, of which no character needs JSON's
-# escapes.
-titled() {
-    local title
-    title=$(basename -- "${file:-a script}" .script | sed 's/\.\(replay\|run\)$//' | LC_ALL=C tr -cd 'A-Za-z0-9_. -')
-    sed "1s/\"title\":\"a \(script\|run\)\"/\"title\":\"$title\"/" "$1"
-}
-
-# give FILE: what a program printed; of `draw` the page that shows it, if there is any line to show.
-give() {
-    if [[ $program != draw ]]; then
-        cat "$1"
-    elif [[ -s $1 ]]; then
-        titled "$1" | "$here/viewer/join.sh" -
+# find_build: puts the build of the program into `build`, and says which it is: the proved one of what stands here, and else an unproved one.
+find_build() {
+    build=$(built "$program")
+    if is_proved "$program"; then
+        note "the proved build"
+        return
     fi
+    [[ ! -e $build ]] ||
+        say "the proved build is out of date, its sources have changed: 'mpheap build $command' makes it anew"
+    find_unproved
 }
 
-# run_build BUILD: runs it, and ends with its status. The shell gives a command in the background no input but by a descriptor of its own.
+# run_beside FILE COMMAND..: runs it, with what it prints and says in this run's folder, and shows how far it is in FILE. The shell gives a
+# command in the background no input but by a descriptor of its own.
+run_beside() {
+    local status=0 began=$SECONDS
+    { exec 3<&0; } 2>/dev/null || exec 3</dev/null
+    "${@:2}" >"$room/answer" 2>"$room/said" <&3 3<&- &
+    child=$!
+    [[ -v given[--follow] ]] || ticks_of "$1"
+    wait_for_child "$child" || status=$?
+    end_progress
+    [[ $program != replay || -z $build ]] || keep_pace "$1" $((SECONDS - began))
+    return "$status"
+}
+
+# run_build: runs it, and ends with its status; in the place of this wrapper, where nothing is left to do beside it.
 run_build() {
     local status=0
-    if [[ $program != draw ]]; then
+    if [[ $program != draw ]] && { [[ $program != replay ]] || ! shows_progress; }; then
         leave
         trap - HUP INT TERM
-        exec "$1" "${words[@]}"
+        exec "$build" "${words[@]}"
     fi
     make_room
-    exec 3<&0
-    "$1" "${words[@]}" >"$room/trace" <&3 3<&- &
-    wait_for_child $! || status=$?
-    give "$room/trace" || no_answer "the page can't be written to standard output"
+    if [[ -v given[--run] && ! -f $file ]]; then
+        read_script "'$file'" 3<"$file"
+        words[-1]=$room/script
+    fi
+    run_beside "$file" "$build" "${words[@]}" || status=$?
+    [[ ! -v given[--run] ]] || retell_run
+    cat "$room/said" >&2 || true
+    give "$room/answer" || no_answer "the answer can't be written to standard output"
     answers $status
 }
 
-# run_program: by the proved build of what stands here, and else by an unproved one.
+# run_program: what the words ask for, by one program and its FILE.
 run_program() {
-    local words
+    local words build
     program=${program_of[$command]}
     [[ -z $file ]] || look_at_file "$file"
+    [[ -n $file ]] || ! reads_input "$command" || (: 3<&0) 2>/dev/null || bad_file "standard input is closed"
     program_words
-    if is_proved "$program"; then
-        note "the proved build"
-        run_build "$(built "$program")"
-    fi
-    [[ ! -e $(built "$program") ]] ||
-        say "the proved build is out of date, its sources have changed: 'mpheap build $command' makes it anew"
-    run_unproved
+    find_build
+    if [[ -n $build ]]; then run_build; else run_once; fi
 }

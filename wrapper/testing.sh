@@ -67,7 +67,7 @@ make_unproved_builds() {
 build_apart() {
     trap leave EXIT
     trap 'stop 143' TERM
-    child=''
+    child='' ticker=''
     quiet=yes
     room=$room/$1
     mkdir "$room" && keep_unproved "$1" >/dev/null && exit

@@ -111,8 +111,8 @@ proved_is_said_where_it_is_true() {
 the_heap_for_c_is_copied() {
     call install "$room/prefix"
     is "install: status" 0 "$status"
-    for file in include/mpheap.h include/mpheap_record.h lib/libmpheap.a lib/pkgconfig/mpheap.pc lib/cmake/mpheap/mpheap-config.cmake \
-        include/mpgc/gc.h include/mpgc/gc/gc.h lib/libmpgc.so lib/libmpgc.a lib/pkgconfig/mpgc.pc \
+    for file in include/mpheap.h include/mpheap_record.h include/mpheap_record_run.h lib/libmpheap.a lib/pkgconfig/mpheap.pc \
+        lib/cmake/mpheap/mpheap-config.cmake include/mpgc/gc.h include/mpgc/gc/gc.h lib/libmpgc.so lib/libmpgc.a lib/pkgconfig/mpgc.pc \
         share/bash-completion/completions/mpheap share/man/man1/mpheap.1 share/man/man3/libmpgc.3; do
         is "install: $file" yes "$(test -f "$room/prefix/$file" && echo yes || echo no)"
     done
@@ -205,9 +205,42 @@ long_work_shows_progress() {
     printf '#!/bin/sh\nsleep 2.5\n' >"$room/says/first"
     chmod +x "$room/says/first"
     script -qec "'$wrapper' run --pages 4 first.script" /dev/null </dev/null >"$room/out" 2>&1
-    has "a terminal: how far an unproved build is" "mpheap: makes an unproved build of mpheap: 1 s, of about 43" "$(cat "$room/out")"
+    shows "a terminal: how far an unproved build is" "mpheap: makes an unproved build of mpheap: [1-9] s, of about 43" "$(cat "$room/out")"
     rm "$room/says/first"
+    long_runs_show_progress
     call build
+}
+
+# shows WHAT PATTERN TEXT: which second a busy machine shows isn't asked.
+shows() {
+    if [[ $3 =~ $2 ]]; then is "$1" yes yes; else is "$1" "a text that matches: $2" "$3"; fi
+}
+
+# on_terminal NAME WORDS..: all that the wrapper writes, with standard error a terminal and standard output the file NAME.
+on_terminal() {
+    script -qec "'$wrapper' ${*:2} >'$1'" /dev/null </dev/null 2>&1
+}
+
+# Of `replay` and `draw` a terminal is told how far they are; nothing else is.
+long_runs_show_progress() {
+    local out
+    lines attach "0 get 1" attach >three.run
+    try_ends 0 $'{"title":"a script"}\n{"c":"attach","r":"mutator 0"}\n{"c":"0 get 1","r":"0"}\n'
+    call draw --pages 4 three.run
+    echo "lines:crates/replay/out/unproved/replay 9000000" >>"$tree/out/took"
+    call replay --pages 4 three.run
+    touch "$room/says/slow"
+    shows "a terminal: how far draw is" "draws three.run: 2 of 3 lines, [1-9] s" "$(on_terminal page draw three.run --pages 4)"
+    has "a terminal: the page is there" "</html>" "$(cat page)"
+    out=$(on_terminal verdict replay three.run --pages 4)
+    shows "a terminal: how far replay is" "judges three.run, 3 lines: [1-9] s, of about 28" "$out"
+    is "a terminal: replay's answer" '{"title":"a script"}' "$(head -n 1 verdict)"
+    shows "a terminal: how far replay of many is" "judges three.run, 3 lines: [1-9] s" "$(on_terminal verdict replay --json three.run three.run --pages 4)"
+    lacks "a terminal and --quiet" judges "$(on_terminal verdict replay --quiet three.run --pages 4)"
+    call replay --pages 4 three.run
+    is "no terminal: what is said" "mpheap: an unproved build, which an earlier run made of these sources: for a first look" "$err"
+    is "a signal ends progress" "143 yes" "$(python3 "$top/tests/wrapper/stopped.py" "$wrapper" replay --pages 4 three.run)"
+    rm "$room/says/slow" page verdict three.run
 }
 
 found_from_everywhere() {

@@ -66,7 +66,8 @@ a_drawn_run_is_a_page() {
     is "draw: its crate and words" "draw try -- --pages 4 /dev/stdin" "$(calls)"
     is "draw: the page" "<!doctype html>" "$(printf '%s' "${out%%$'\n'*}" | tr '[:upper:]' '[:lower:]')"
     has "draw: the trace is in it" '{"c":"attach","r":"\u003c"}' "$out"
-    has "draw: its title is FILE's name" '{"title":"first"}' "$out"
+    has "draw: its title is FILE's name, and from what it comes" \
+        '{"title":"first","source":"the script first.script on 4 pages, by an unproved build, commit unknown"}' "$out"
     try_ends 2 $'{"c":"attach"}\n' "bad line 2"
     call draw --pages 4 first.script
     is "draw: the status of a bad line" 2 "$status"
@@ -85,7 +86,8 @@ a_drawn_run_is_a_page() {
     is "draw --run: the status of a line that is refused" 1 "$status"
     has "draw --run: what is said of it" "line 1: a mutator gets the lowest free slot" "$err"
     has "draw --run: the page" '{"c":"attach","r":"mutator 1","no":1}' "$out"
-    has "draw --run: its title is FILE's name" '{"title":"first"}' "$out"
+    has "draw --run: its title is FILE's name, and from what it comes" \
+        '{"title":"first","source":"the run first.replay on 4 pages, by an unproved build, commit unknown"}' "$out"
     try_ends 2 "" "no lines"
     call draw --pages 4 --run first.script
     is "draw --run: no run, no page" "2 " "$status $out"

@@ -69,6 +69,41 @@ a_kept_build_is_called_as_it_is() {
     try_ends 0 $'mutator 0\n'
     rm -f "$room"/seen/*
     a_signal_ends_a_kept_build
+    a_refused_run_is_told
+    try_ends 0 $'mutator 0\n'
+}
+
+# of_replay STATUS REPLIES: what the kept build of `replay` answers, beside what the other programs do.
+of_replay() {
+    mkdir -p "$room/says/replay"
+    echo "$1" >"$room/says/replay/status"
+    lines "${@:2}" >"$room/says/replay/replies"
+    : >"$room/says/replay/said"
+}
+
+# The page of a run that is refused, and standard error, begin with what `replay` says first of it, also where FILE is read only once.
+a_refused_run_is_told() {
+    local told
+    told=$(lines "line 3: object 8 was taken, but \\\"x\" points into it" "line 3: register 1 points into it" "line 3: a rule" "line 3: it has to stay")
+    try_ends 1 $'{"title":"a run"}\n{"c":"attach","r":"mutator 0"}\n{"c":"gc collect","r":"1 - 8","no":3,"says":["a rule","it has to stay"],"about":0}\n' \
+        "$(tail -n 2 <<<"$told")"
+    of_replay 1 "$told"
+    echo "attach => mutator 0" >first.run
+    call draw --pages 1 --run first.run
+    call draw --pages 1 --run first.run
+    is "a refused run: status, what is said" "1 $(lines "mpheap: an unproved build, which an earlier run made of these sources: for a first look" "$told")" "$status $err"
+    is "a refused run: what replay is given" "$(lines --pages 1 first.run)" "$(words)"
+    has "a refused run: the page" '"no":3,"says":["object 8 was taken, but \\\"x\" points into it","register 1 points into it","a rule","it has to stay"],"about":0}' "$out"
+    has "a refused run: from what the page comes" '"source":"the run first.run on 1 page, by an unproved build, commit unknown"' "$out"
+    has "a refused run: the lines before" '{"c":"attach","r":"mutator 0"}' "$out"
+    "$wrapper" draw --pages 1 --run /dev/stdin <first.run >"$room/out" 2>"$room/err"
+    is "a refused run that is read once: what replay reads" "attach => mutator 0" "$(input)"
+    is "a refused run that is read once: what is said" "$told" "$(tail -n 4 "$room/err")"
+    of_replay 1 "line 2: another rule"
+    call draw --pages 1 --run first.run
+    is "another answer of replay isn't taken" "$(tail -n 2 <<<"$told")" "$(tail -n 2 "$room/err")"
+    has "another answer of replay: the page" '"no":3,"says":["a rule",' "$out"
+    rm -r "$room/says/replay" first.run
 }
 
 # A program takes the place of the wrapper, and a signal ends it.

@@ -8,7 +8,7 @@ it_says_how_it_is_used() {
     is "no words: status, output, rt's calls" "2  " "$status $out $(calls)"
     for form in "run --pages N [FILE]" "threads --pages N [--helpers H] [--record RUN] FILE" "stress --seed S --mutators M --steps K" \
         "record --pages N FILE" "replay [--pages N | --bytes N] [--places any [--from ADDRESS]] [--why] [--json] [--follow] FILE .." \
-        "draw --pages N [--run RUN | FILE]" "build [WHAT ..]" "test" "package DIR" "install PREFIX" "completion" "manual" "help [COMMAND]"; do
+        "draw --pages N [--run RUN | FILE]" "build [WHAT ..]" "test" "package DIR" "install PREFIX" "completion [SHELL]" "manual" "help [COMMAND]"; do
         has "no words: $form" "mpheap $form"$'\n' "$err"
     done
     has "no words: which page says more" "$tree/docs/SCRIPTS.md" "$err"
@@ -54,6 +54,7 @@ completes() {
 
 words_are_completed() {
     answers "completion" completion
+    answers "completion bash" completion bash
     cp "$room/out" "$room/completion"
     completes "mpheap re" record replay
     completes "mpheap --v" --version
