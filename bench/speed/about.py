@@ -11,11 +11,14 @@ def said_by(*words):
     return ended.stdout.strip() if ended.returncode == 0 else ""
 
 
+CODE = ("crates", "c", "include")
+
+
 def commit(tree):
-    """The commit that stands there, and whether the files are its own."""
-    name = said_by("git", "-C", str(tree), "rev-parse", "--short=8", "HEAD")
-    changed = said_by("git", "-C", str(tree), "status", "--porcelain", "--", "crates", "c", "include")
-    return f"`{name}`" + (" with changes" if changed else "")
+    """The commit that stands there, the last one that changed what is measured, and whether that has changed since."""
+    here, code = (said_by("git", "-C", str(tree), "log", "-1", "--format=%h", "--abbrev=8", *paths) for paths in ((), ("--", *CODE)))
+    changed = said_by("git", "-C", str(tree), "status", "--porcelain", "--", *CODE)
+    return f"`{here}`" + (f", whose code is of `{code}`" if code != here else "") + (", with changes" if changed else "")
 
 
 def processor():
@@ -28,7 +31,7 @@ def of_run(top, before, counts):
     day = datetime.date.today()
     gc = said_by("dpkg-query", "-W", "-f", "${Version}", "libgc-dev").split("-")[0].split("+")[0].removeprefix("1:")
     parts = [
-        f"Measured on {day.day} {day:%B %Y}: commit {commit(top)}" + (f", beside commit {commit(Path(before))} (*before*)." if before else "."),
+        f"Measured on {day.day} {day:%B %Y}: commit {commit(top)}" + (f"; *before* is commit {commit(Path(before))}." if before else "."),
         f"Machine: {processor()}, {os.cpu_count()} processors, Linux {platform.release()}.",
         f"Compilers of the other sides: {said_by('rustc', '--version')}; {said_by('cc', '--version').splitlines()[0]}" + (f"; bdwgc {gc}." if gc else "."),
         f"Pairs or rounds: {', '.join(counts)}.",

@@ -28,12 +28,23 @@ def slower(pairs, other, bound):
     return "; ".join(f"`{row}` ({two_places(ratio)})" for row, ratio in found) or "none"
 
 
+def turned(pairs):
+    """The rows that take longer than bdwgc and did not before, with what was then, by the medians of both."""
+    found = []
+    for row in pairs.rows():
+        before, bdwgc, ratio = pairs.theirs(row, "before"), pairs.theirs(row, "bdwgc"), pairs.ratio(row, "bdwgc")
+        if before and bdwgc and ratio.median > 1 and before <= bdwgc:
+            found.append(f"`{row}` ({two_places(before / bdwgc)})")
+    return "; ".join(found) or "none"
+
+
 def said_of_rows(pairs):
     """Sentences that go stale with no run, since they are made of it."""
     parts = []
     if "bdwgc" in pairs.others():
         parts.append(f"Rows that take longer than bdwgc: {slower(pairs, 'bdwgc', 1)}.")
     if "before" in pairs.others():
+        parts.append(f"Of these before took no longer than bdwgc: {turned(pairs)}.")
         parts.append(f"Rows that take more than 1.1 times what they took before: {slower(pairs, 'before', 1.1)}.")
     differ = [row for row in pairs.rows() if any(pairs.differ(row, other) for other in pairs.others(row))]
     parts += [f"Rows in which heaps did otherwise, and which compare nothing: {', '.join(differ)}."] * bool(differ)
