@@ -1,4 +1,4 @@
-// Full collections, what every collection does at its end, and what is due is done. Trusted, not proved.
+// Full collections, and what every collection does at its end. Trusted, not proved.
 //
 // What it owes the core, of mpheap.h:
 //
@@ -9,6 +9,7 @@
 //   the roots are as the program has them          at mpheap_finish: they are read just before, with nothing between
 //
 // The cells of what went are swept later, a few pages at a time: mpheap_collect would sweep them all in the stop.
+// Counted under the rest.
 #include "layer.h"
 
 // What follows each collection, full or in small steps.
@@ -45,7 +46,7 @@ static void collect(void)
     end_with_roots();
 }
 
-bool mpgc_collect_fully(void *unused)
+static bool collect_fully(void *unused)
 {
     (void)unused;
     sigset_t old;
@@ -63,72 +64,8 @@ bool mpgc_collect_fully(void *unused)
     return true;
 }
 
-// The cycle that marks ends, if there is one, or the program breaks it off: then it stands, and the next collection goes on with it.
-static bool end_unless(GC_stop_func stop)
-{
-    enum { WORDS = 4 * PAGE / WORD };
-    while (mpgc.is_marking) {
-        if (stop()) {
-            if (!GC_is_incremental_mode()) mpgc_leave_open();
-            return false;
-        }
-        mpgc_go_on(WORDS);
-    }
-    if (!GC_is_incremental_mode()) mpgc_open_all();
-    return true;
-}
-
-// A collection that the program may break off, by this function, if there is one. What a cycle has marked that stood before it is kept by
-// that one, so another one begins when it has ended.
-static bool collect_unless(GC_stop_func stop)
-{
-    if (GC_dont_gc || (stop && stop())) return false;
-    if (!stop) return mpgc_collect_fully(NULL);
-    if (!end_unless(stop)) return false;
-    (void)mpgc_begin_cycle(NULL);
-    return end_unless(stop);
-}
-
-static bool collect_unless_at(void *stop) { return collect_unless(*(GC_stop_func *)stop); }
-
-bool mpgc_collect(GC_stop_func stop)
+void mpgc_collect(void)
 {
     mpgc_enter();
-    bool answer = mpgc_from_here(collect_unless_at, &stop);
-    mpgc_tell_ready();
-    return answer;
-}
-
-// What the last collection left to do is done, in part. Answers whether there was some.
-bool mpgc_tidy(void)
-{
-    enum { SWEPT = 4 };
-    bool has_opened = mpgc_open_some(), has_swept = mpgc_sweep_some(SWEPT);
-    return has_opened || has_swept;
-}
-
-// What is due is done, by a request; or as the program asked for it, where `asked` isn't null.
-bool mpgc_look(void *asked)
-{
-    enum { WORDS = 1024 };
-    switch (mpgc_due(asked != NULL)) {
-    case NOTHING: break;
-    case TIDYING: mpgc_tidied(mpgc_tidy()); break;
-    case WAKE:
-        if (mpgc_wake_collector(true)) break;
-        mpgc_go_on(WORDS);
-        break;
-    case STEP: mpgc_go_on(WORDS); break;
-    case COLLECTION: (void)collect_unless(mpgc_stop_func()); break;
-    }
-    return mpgc_is_in_cycle();
-}
-
-bool mpgc_collect_a_little(void)
-{
-    bool asked = true;
-    mpgc_enter();
-    bool answer = mpgc_from_here(mpgc_look, &asked);
-    mpgc_tell_ready();
-    return answer;
+    (void)mpgc_from_here(collect_fully, NULL);
 }

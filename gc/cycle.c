@@ -12,6 +12,7 @@
 //                                                  they needn't be.
 //   "while the call runs, no word .. is written    mpheap_mark_beside and mpheap_retrace_beside are called where the collector has a thread
 //   but on pages that were dirty when it began"    of its own: argued at the head of protection.c
+// Counted under the rest.
 #include "layer.h"
 
 static void begin(void)
@@ -39,6 +40,7 @@ static void end(void)
     mpgc_end_collection(false, start);
 }
 
+// Counted under the collector's thread.
 // A piece that reads words of the program, or cleans pages, is done while no other thread runs, but for those that have calls for it, where
 // the collector has a thread of its own. Pages to which the kernel may be writing aren't read again beside it.
 static bool needs_stop(enum piece piece)
@@ -71,6 +73,7 @@ static uint64_t reread_one(void)
     return count;
 }
 
+// Counted under the rest.
 // The lowest open pages are closed, and as many dirty ones read again; or some, where none is open: all before the lock is given back.
 // Answers how many were read.
 static uint64_t reread(void)
@@ -109,8 +112,9 @@ static uint64_t do_piece(enum piece piece, uint64_t words)
 
 // The next step of the cycle, of about so many words where it marks. At rest one begins. From its first piece on that needs a stop no other
 // thread runs. Before one that needs none is told what a handler opened in the middle of another telling.
-void mpgc_go_on(uint64_t words)
+static bool go_on(void *left)
 {
+    uint64_t words = *(uint64_t *)left;
     sigset_t old;
     bool was_marking = mpgc.is_marking, has_stopped = false;
     mpgc_block_signals(&old);
@@ -126,23 +130,13 @@ void mpgc_go_on(uint64_t words)
     if (has_stopped) mpgc_start_world();
     mpgc_restore_signals(&old);
     if (was_marking && !mpgc.is_marking) mpgc_tell_end();
-}
-
-// A cycle begins at once, as far as the roots.
-bool mpgc_begin_cycle(void *unused)
-{
-    (void)unused;
-    mpgc_skip_sweeping();
-    while (!mpgc_roots_are_read()) mpgc_go_on(0);
     return true;
 }
 
-void mpgc_start_cycle(void)
+void mpgc_step(uint64_t words)
 {
     mpgc_enter();
-    mpgc_lock();
-    if (!mpgc.is_marking) (void)mpgc_from_here(mpgc_begin_cycle, NULL);
-    mpgc_unlock();
+    (void)mpgc_from_here(go_on, &words);
 }
 
 bool mpgc_is_marking(void) { return mpgc.is_marking; }

@@ -5,6 +5,7 @@
 // reach an object is a root at a cycle's end. It pays at that end, with no other thread running (ending.c): each described object that is
 // marked is read, once, until no further one is marked; and so are those that are marked when roots are read earlier. What a descriptor
 // leaves out is weak, as the program asked. Which descriptor a request has, and whether it needs one, is said in names/kinds.c.
+// Counted under roots, links, finalizers and kinds.
 #include "layer.h"
 #include <stdlib.h>
 #include <string.h>

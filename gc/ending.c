@@ -8,6 +8,7 @@
 //                                                  functions of the program that run here may mark more, which is always right, and
 //                                                  must write no word of the heap, as with bdwgc
 //   whether an object goes                         mpheap_is_marked, clause HasMark; no page is dirty and no word left to read then
+// Counted under roots, links, finalizers and kinds.
 #include "layer.h"
 
 static bool is_ending;

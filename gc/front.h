@@ -7,6 +7,7 @@
 // a call, as a signal's handler might be.) So a fault of theirs is a wrong figure, pace or answer, a finalizer that comes too early, late
 // or never, a system call that answers EFAULT, or a program that is stopped, or hangs. What nothing hinders is what any C may do: write at
 // a wrong address, or have the kernel do it; or answer a request for an object that is read by one that isn't.
+// Counted under the rest.
 #ifndef MPGC_FRONT_H
 #define MPGC_FRONT_H
 #define _GNU_SOURCE
@@ -29,33 +30,24 @@
 // What a page was last given to. A fresh one holds no object yet, and one that was given back to the system none any more.
 enum page_kind { FRESH, ORDINARY, POINTER_FREE, GIVEN_BACK };
 
-// What is due, as names/pacing.c sees it, and the pieces of a cycle, of which names/steps.c says which is next.
-enum due { NOTHING, TIDYING, STEP, COLLECTION, WAKE };
+// The pieces of a cycle, of which names/steps.c says which is next.
 enum piece { NO_PIECE, SWEEP, START, CLOSE, BEGIN, ROOTS, MARK, REREAD, END };
 
-// Figures, which everybody may write: whatever they say, no object is lost.
-struct figures {
-    uint64_t since, total, freed;  // words: asked for since the last collection and in all, and freed since
-    uint64_t next;                 // words asked for at which a request looks what is due
-    uint64_t marked;               // words of ordinary objects that the last collection has read
-    uint64_t roots;                // and of roots: bytes
-    size_t limit;                  // the most pages that the program lets the heap have
-    unsigned long cycles, full, faults, retraces;
-    double longest_cycle_end, longest_full, full_time;  // microseconds
-    unsigned long stops;                                // of other threads, with what their stopping took
-    double longest_stop, stop_time, longest_standing;    // the last: from the request to the going on
-};
-HIDDEN extern struct figures mpgc_figures;
+#include "names/asked.h"
 
 // ---- What may be called at any time ----
 
 // It ends the program, with a sentence.
 HIDDEN _Noreturn void mpgc_stop(const char *sentence);
 
-// Collections, whole and in part: each reads all roots itself, and takes nothing that they lead to. The program may break off the first.
-HIDDEN bool mpgc_collect(GC_stop_func stop);
-HIDDEN bool mpgc_collect_a_little(void);
-HIDDEN void mpgc_start_cycle(void);
+// A collection, and a step of a cycle, of about so many words where it marks; at rest a cycle begins. Each reads all roots itself, and takes
+// nothing that they lead to.
+HIDDEN void mpgc_collect(void);
+HIDDEN void mpgc_step(uint64_t words);
+
+// Pages that are still closed are opened: some, if no cycle marks, which answers whether there were; or all, and told if one does.
+HIDDEN bool mpgc_open_some(void);
+HIDDEN void mpgc_leave_open(void);
 
 // More pages are counted as the heap's, if there are: nothing is known of a page, and nothing owed for it, before an object lies there.
 HIDDEN bool mpgc_grow(size_t pages);
@@ -64,6 +56,7 @@ HIDDEN bool mpgc_grow(size_t pages);
 HIDDEN bool mpgc_sweep_some(size_t pages);
 HIDDEN void mpgc_give_back(size_t from, size_t to);
 
+// Counted under roots, links, finalizers and kinds.
 // Words of an object that has just been made and is pointer-free are read as a descriptor says: so many bytes of it, again and again. And a
 // function that marks has this number. These add to what is read.
 enum tag { BY_LENGTH, BY_BITMAP, BY_PROC, BY_OBJECT };
@@ -78,6 +71,7 @@ HIDDEN void mpgc_mark_from(uintptr_t word);
 HIDDEN void mpgc_mark_from_words(uintptr_t base, size_t words, bool with_itself);
 HIDDEN void mpgc_mark_all(void);
 
+// Counted under the rest.
 // Pages are told and opened: an open page that was told owes nothing.
 HIDDEN void mpgc_will_write(const void *from, size_t bytes);
 // They stay open, and count as written, until this thread says so, which others may collect meanwhile.
@@ -105,71 +99,24 @@ HIDDEN size_t mpgc_free_run(size_t from, size_t *first);
 // And this one: words that count as asked for, and weren't given out yet.
 HIDDEN size_t mpgc_words_in_runs(void);
 
-// And these. Whether a cycle marks, and there was ever a second thread; the links that stand; this thread, if it is known, and its stack, as
-// the program or the C library says where it ends.
+// And these. Whether a cycle marks, there was ever a second thread, and every other one has ended; the links that stand; this thread, if it
+// is known, and its stack, as the program or the C library says where it ends.
 HIDDEN bool mpgc_is_marking(void);
 HIDDEN bool mpgc_is_threaded(void);
+HIDDEN bool mpgc_is_last_thread(void);
 HIDDEN bool mpgc_has_lock(void);
 HIDDEN size_t mpgc_count_links(void);
 HIDDEN void *mpgc_this_thread(void);
 HIDDEN char *mpgc_stack_bottom(void);
 HIDDEN void mpgc_find_stack(const char **low, const char **bottom);
 
-// ---- What the audited files ask of the others, and rely on in nothing: any answer will do ----
-// Besides they ask GC_get_abort_func, GC_is_incremental_mode and, for figures, GC_size; read GC_dont_gc and GC_on_heap_resize;
-// write GC_gc_no and GC_non_gc_bytes. tests/gc.sh has the list.
-
-// names/pacing.c
-HIDDEN enum due mpgc_due(bool is_asked);
-HIDDEN enum due mpgc_due_to_collector(void);
-HIDDEN void mpgc_tidied(bool did_some);
-HIDDEN void mpgc_set_budget(void);
-HIDDEN bool mpgc_is_off(void);
-HIDDEN GC_stop_func mpgc_stop_func(void);
-
-// names/beside.c. Whether the collector has a thread of its own.
-HIDDEN bool mpgc_is_beside(void);
-
-// names/steps.c
-HIDDEN enum piece mpgc_first_piece(void);
-HIDDEN enum piece mpgc_piece_after(enum piece piece, uint64_t did, uint64_t *left);
-HIDDEN bool mpgc_is_in_cycle(void);
-HIDDEN bool mpgc_roots_are_read(void);
-HIDDEN void mpgc_skip_sweeping(void);
-HIDDEN void mpgc_drop_cycle(void);
-
-// names/figures.c
-HIDDEN double mpgc_now(void);
-HIDDEN void mpgc_count_collection(bool is_full, double start);
-HIDDEN void mpgc_count_stop(double took);
-HIDDEN void mpgc_count_standing(double took);
-
-// names/environment.c
-HIDDEN void mpgc_read_environment(void);
-
-// names/told.c
-HIDDEN void mpgc_tell_start(void);
-HIDDEN void mpgc_tell_end(void);
-HIDDEN void *mpgc_out_of_memory(size_t bytes);
-
-// names/finalizers.c and names/toggles.c, at a cycle's end, while no other thread runs; a request; and what is freed
-HIDDEN bool mpgc_has_to_find(void);
-HIDDEN void mpgc_mark_toggled(void);
-HIDDEN void mpgc_find_ready(void);
-HIDDEN void mpgc_take_ready(void);
-HIDDEN void mpgc_tell_ready(void);
-HIDDEN void mpgc_forget_finalizer(uintptr_t base);
-
-// kernel/masks.c and kernel/handlers.c
-HIDDEN const sigset_t *mpgc_without_faults(const sigset_t *signals, sigset_t *room);
-HIDDEN void mpgc_barrier_stands(const struct sigaction *old);
-HIDDEN void mpgc_pass_on(int number, siginfo_t *info, void *context);
-
 // lock.c. A program may take the lock, and give it back.
 #undef GC_alloc_lock
 #undef GC_alloc_unlock
 SHOWN void GC_alloc_lock(void);
 SHOWN void GC_alloc_unlock(void);
+// And let those have it first that wait for it, if for no longer than a moment.
+HIDDEN void mpgc_give_way(void);
 
 #ifndef MPGC_LAYER_H
 #pragma GCC poison GC_free GC_realloc GC_debug_free GC_debug_realloc GC_debug_realloc_replacement

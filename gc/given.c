@@ -6,6 +6,7 @@
 //   given back to the system"                            there meanwhile; no further than the run goes. Which of them, and when, is said
 //                                                        in names/unmap.c
 //   kinds are as the page's                              mpgc_learn, for each page
+// Counted under sizes and memory.
 #include "layer.h"
 #include <sys/mman.h>
 

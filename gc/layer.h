@@ -1,7 +1,7 @@
 // What the audited files of libmpgc know of each other. x86-64, Linux, the GNU C library. Trusted, and not proved.
 //
 // Below them stands the proved heap of mpheap_c, above them a C program that knows bdwgc's gc.h, and may do what it likes. The proofs hold
-// for the program as far as these files keep what mpheap.h asks of a caller. They alone could lose an object or break memory: 2,422 lines
+// for the program as far as these files keep what mpheap.h asks of a caller. They alone could lose an object or break memory: 2,255 lines
 // of code in this folder, without blank ones and comments. Why names/ and kernel/ can't is said in front.h. This is all that they owe, in
 // the order in which they are best read, and the head of each says by which lines it pays:
 //
@@ -19,13 +19,13 @@
 //   roots.c threads.c      what keeps it: every word by which the program may still reach an object is a root at a collection's end,
 //   locals.c               of each thread
 //   collect.c cycle.c      the core's calls in an order that keeps the last three
-//   collector.c            the same, by a thread of the layer's own: it only says when
 //   ending.c described.c   of objects that the core doesn't read, each word that points is a root at a cycle's end
 //   links.c                the layer's own writes to words of the program: in kept objects alone
 //   table.c                what links.c and described.c know, so that it keeps nothing
 //
 // "Each out parameter points to a number of its own, outside of every heap": they are locals and, for runs.c, the layer's own. "malloc,
 // realloc and free are those of one allocator": the core asks for memory in start.c alone, and gives none back.
+// Counted under the rest.
 #ifndef MPGC_LAYER_H
 #define MPGC_LAYER_H
 #include "front.h"
@@ -46,6 +46,7 @@ _Static_assert(MAX_PAGES % 64 == 0, "the heap isn't 64 groups of pages");
 enum { RUN_GRANULES = 16, RUN_WORDS = 256, RUN_OBJECTS = 64, PINS = 8 };
 struct run { uint64_t *next, *end, bases[RUN_OBJECTS]; };
 
+// Counted under threads.
 // A thread that is known (threads.c). The lock is held where one is linked or unlinked, and by who reads another's.
 enum thread_state { STARTING, RUNNING, BLOCKED, ENDED };
 struct thread {
@@ -71,6 +72,7 @@ struct thread {
     void *data;                            // what it was given, until it runs, and what it answered, when it has ended
 };
 
+// Counted under the rest.
 // All that the layer knows of the heap, in one piece, so that the collector can leave it out of the roots.
 struct layer {
     mpheap heap;
@@ -101,6 +103,7 @@ static inline struct run *mpgc_run_of(struct thread *thread, size_t granules, en
     return &thread->runs[kind == POINTER_FREE][granules];
 }
 
+// Counted under threads.
 // start.c and threads.c. The heap is open, and this thread is known, by this record.
 HIDDEN extern _Thread_local struct thread *mpgc_self __attribute__((tls_model("initial-exec")));
 HIDDEN void mpgc_open(void);
@@ -118,7 +121,6 @@ HIDDEN void mpgc_lock_slowly(void);
 HIDDEN void mpgc_unlock_slowly(void);
 HIDDEN void mpgc_become_threaded(void);
 HIDDEN void mpgc_lock_in_child(void);
-HIDDEN void mpgc_give_way(void);
 HIDDEN uint32_t mpgc_my_number(void);
 HIDDEN extern _Thread_local unsigned mpgc_lock_depth __attribute__((tls_model("initial-exec")));
 static inline void mpgc_lock(void)
@@ -145,6 +147,7 @@ HIDDEN void mpgc_make_stoppable(void);
 HIDDEN void mpgc_wait_suspended(void);
 HIDDEN struct thread *mpgc_record_of(pthread_t id);
 
+// Counted under the rest.
 // Every call of the core stands between these two: the fault handler then only notes a page, and it is told here.
 HIDDEN void mpgc_tell_noted(void);
 static inline void mpgc_call_begins(void)
@@ -181,6 +184,7 @@ HIDDEN void mpgc_free_in(uint64_t base);
 HIDDEN bool mpgc_fill_run(struct run *run, size_t granules, enum page_kind kind);
 HIDDEN void mpgc_push_runs(const struct thread *thread, void (*push)(uint64_t word));
 
+// Counted under threads.
 // locals.c
 HIDDEN void mpgc_scan_locals(const struct thread *thread, size_t module, size_t bytes, void (*scan)(const char *from, const char *to));
 HIDDEN void mpgc_scan_keys(const struct thread *thread, void (*scan)(const char *from, const char *to));
@@ -188,6 +192,7 @@ HIDDEN void mpgc_set_keys(struct thread *thread);
 HIDDEN int mpgc_set_own_key(pthread_key_t key, const void *value);
 HIDDEN void mpgc_drop_keys(void);
 
+// Counted under roots, links, finalizers and kinds.
 // table.c
 struct entry { struct entry *next; uintptr_t number; };
 struct table { struct entry **chains; size_t count, room; };
@@ -207,6 +212,7 @@ HIDDEN void mpgc_drop_described(void);
 HIDDEN void mpgc_forget_described(uintptr_t base);
 HIDDEN size_t mpgc_count_described(void);
 
+// Counted under the rest.
 // pages.c
 HIDDEN bool mpgc_learn(uintptr_t base, size_t words, enum page_kind kind);
 HIDDEN void mpgc_set_uncollectable(uintptr_t base, bool on);
@@ -223,9 +229,7 @@ HIDDEN bool mpgc_is_pinned(void);
 HIDDEN void mpgc_tell_pinned(void);
 HIDDEN void mpgc_drop_pins(struct thread *thread);
 HIDDEN void mpgc_stop_closing(void);
-HIDDEN bool mpgc_open_some(void);
 HIDDEN void mpgc_open_all(void);
-HIDDEN void mpgc_leave_open(void);
 
 // signals.c. The C library's sigaction by its other name, since kernel/handlers.c takes that one for the program.
 extern int __sigaction(int number, const struct sigaction *next, struct sigaction *old);
@@ -233,6 +237,7 @@ HIDDEN void mpgc_take_faults(void);
 HIDDEN void mpgc_block_signals(sigset_t *old);
 HIDDEN void mpgc_restore_signals(const sigset_t *old);
 
+// Counted under roots, links, finalizers and kinds.
 // roots.c
 HIDDEN void mpgc_read_roots(void);
 HIDDEN void mpgc_take_roots(bool on);
@@ -240,20 +245,12 @@ HIDDEN void mpgc_empty_stack(void);
 HIDDEN bool mpgc_with_registers(bool (*work)(void *), void *data);
 HIDDEN bool mpgc_from_here(bool (*work)(void *), void *data);
 
-// collect.c, cycle.c, spare.c and links.c. What collects runs by mpgc_from_here.
-HIDDEN bool mpgc_look(void *asked);
-HIDDEN bool mpgc_collect_fully(void *unused);
+// Counted under the rest.
+// collect.c, spare.c and links.c. What collects runs by mpgc_from_here.
 HIDDEN void mpgc_end_collection(bool is_full, double start);
-HIDDEN bool mpgc_begin_cycle(void *unused);
-HIDDEN void mpgc_go_on(uint64_t words);
 HIDDEN void mpgc_make_spare(void);
 HIDDEN void mpgc_need_full_cycle(void);
 HIDDEN void mpgc_decide_links(bool is_long);
 HIDDEN void mpgc_clear_links(void);
-HIDDEN bool mpgc_tidy(void);
-
-// collector.c. The lock is held.
-HIDDEN bool mpgc_wake_collector(bool may_start);
-HIDDEN void mpgc_lose_collector(void);
 
 #endif

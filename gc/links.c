@@ -10,6 +10,7 @@
 //   address of an object that is kept at that moment"    its link is gone too
 //
 // Nothing is freed while other threads are stopped (table.c).
+// Counted under roots, links, finalizers and kinds.
 #include "layer.h"
 #include <stdlib.h>
 

@@ -5,6 +5,7 @@
 // The loader tells where this thread's data is, and not where another's. But each thread has a vector of its modules' data behind its own
 // pointer, in the same place since the first C library for threads of this kind. (Most of it lies at the end of the stack too, but not for
 // the first thread, and not what was loaded later.) Keys are in no documented place: so what is set is written down here too.
+// Counted under threads.
 #include "layer.h"
 #include "kernel/next.h"
 #include <sys/mman.h>

@@ -10,6 +10,7 @@
 // thread it is counted alone.
 //
 // Who was woken finds it taken again by a thread that takes it step after step: so that one gives way between two (mpgc_give_way).
+// Counted under threads.
 #include "layer.h"
 #include <errno.h>
 #include <linux/futex.h>
@@ -64,6 +65,7 @@ static void wait_for_it(void)
     if (gives_way) syscall(SYS_futex, &handed, FUTEX_WAKE_PRIVATE, 1, NULL, NULL, 0);
 }
 
+// Counted under the collector's thread.
 // Who has given it away, and will take it again at once, lets those have it first that wait; but for no longer than a moment, since one of
 // them may have been told to wait itself (world.c).
 void mpgc_give_way(void)
@@ -78,6 +80,7 @@ void mpgc_give_way(void)
     }
 }
 
+// Counted under threads.
 void mpgc_lock_slowly(void)
 {
     for (;;) {

@@ -2,6 +2,7 @@
 // whatever points into them. Trusted, not proved.
 //
 // It rests on one fact of the core (heap_spec, Room): a page that holds objects holds objects of one kind.
+// Counted under the rest.
 #include "layer.h"
 
 static size_t count[4];  // of pages of each kind, but fresh ones

@@ -32,7 +32,7 @@
 // word of an object that the program has, and is as good before that call as behind it. And it may come between a page's opening under a
 // call and its telling at that call's end: nothing reads there meanwhile, so it is as good behind the telling.
 //
-// Why it holds beside a step, where the collector has a thread of its own (collector.c), and the others run while it reads. Owed is
+// Why it holds beside a step, where the collector has a thread of its own (names/collector.c), and the others run while it reads. Owed is
 // besides, of mpheap.h, "while the call runs, no word of an object that is not pointer-free is written but on pages that were dirty when it
 // began", and of mpheap_retrace_beside, "on the page that it reads, the lowest dirty one, nobody writes" such a word.
 //
@@ -65,6 +65,7 @@
 //
 // Where no cycle marks nothing is owed, since a full cycle is needed then (spare.c): pages that are still closed are opened untold, by
 // blocks, at a write or a few at a time.
+// Counted under the rest.
 #include "layer.h"
 #include <errno.h>
 #include <string.h>
@@ -76,6 +77,7 @@ static size_t closing;             // so far pages were closed for the next cycl
 
 static void *page_start(size_t page) { return (void *)(FIRST + page * PAGE); }
 
+// Counted under sizes and memory.
 // A run of pages between others of the other kind is a mapping of its own, of which the kernel allows some 65,000 to a process. So from so
 // many changes on no page is closed, and pages are opened by blocks, until all are open again.
 enum { CHANGES = 16000 };
@@ -88,6 +90,7 @@ static void set_access(size_t page, size_t count, int access)
     if (mprotect(page_start(page), count * PAGE, access) != 0) mpgc_stop("the kernel refused to protect a page of the heap");
 }
 
+// Counted under the rest.
 // One event of the law, told of one address.
 static void tell_now(size_t page)
 {
@@ -254,6 +257,7 @@ size_t mpgc_close_lowest(size_t most)
     return (is_one ? lowest_open - page : most) + each_pinned(NULL, lowest_open);
 }
 
+// Counted under the collector's thread.
 // Whether a page of ordinary objects stays open for the kernel.
 bool mpgc_is_pinned(void)
 {
@@ -264,6 +268,7 @@ bool mpgc_is_pinned(void)
     return false;
 }
 
+// Counted under the rest.
 // To be called behind these retraces, before another thread runs: the pages that they have cleaned may be some that stayed open.
 void mpgc_tell_pinned(void) { (void)each_pinned(tell_now, mpgc.size); }
 
@@ -281,10 +286,12 @@ static size_t lowest_closed(void)
 // Where no cycle marks: the block of the lowest closed page is opened again. Answers whether there was one.
 bool mpgc_open_some(void)
 {
+    mpgc_lock();
     size_t page = lowest_closed();
-    if (mpgc.is_marking || page == mpgc.size) return false;
-    open_block(page);
-    return true;
+    bool is_one = !mpgc.is_marking && page < mpgc.size;
+    if (is_one) open_block(page);
+    mpgc_unlock();
+    return is_one;
 }
 
 // The program writes nothing until no cycle marks.
@@ -296,12 +303,14 @@ void mpgc_open_all(void)
     changes = 0;
 }
 
-// The cycle stands still, with every page told and open.
+// If a cycle marks it stands still, with every page told and open; and else nothing is owed.
 void mpgc_leave_open(void)
 {
-    for (size_t page = 0; page < mpgc.size; page++) tell_now(page);
+    mpgc_lock();
+    for (size_t page = 0; mpgc.is_marking && page < mpgc.size; page++) tell(page);
     mpgc_open_all();
     lowest_open = 0;
+    mpgc_unlock();
 }
 
 // While a cycle marks, ordinary objects came to lie on a page of another kind.

@@ -9,6 +9,7 @@
 //   kinds are as the page's                              mpgc_learn, after each request
 //
 // The debugging names of what frees stand here too, since no file of names/ may free.
+// Counted under the rest.
 #include "layer.h"
 #include <string.h>
 
@@ -88,7 +89,7 @@ static uint64_t take(size_t words, enum page_kind kind)
 static uint64_t take_again(size_t words, enum page_kind kind)
 {
     if (mpgc_is_off() || words > MAX_REQUEST_WORDS) return 0;
-    (void)mpgc_from_here(mpgc_collect_fully, NULL);
+    mpgc_collect();
     while (mpgc_sweep_some(MAX_PAGES)) { }
     return take(words, kind);
 }
@@ -99,7 +100,7 @@ __attribute__((noinline)) static void *allocate_anew(size_t bytes, enum page_kin
     mpgc_enter();
     size_t words = words_of(bytes);
     mpgc_lock();
-    if (mpgc_figures.since + words >= mpgc_figures.next) (void)mpgc_from_here(mpgc_look, NULL);
+    if (mpgc_figures.since + words >= mpgc_figures.next) (void)mpgc_look(false);
     uint64_t base = take(words, kind);
     if (base == 0) base = take_again(words, kind);
     mpgc_unlock();

@@ -9,6 +9,7 @@
 //
 // A callee-saved register may hold the only pointer to an object: they are saved by hand, since `setjmp` of this C library hides some.
 // The others are the caller's to save, and lie on its stack.
+// Counted under roots, links, finalizers and kinds.
 #include "layer.h"
 #include <link.h>
 #include <stdlib.h>
@@ -112,6 +113,7 @@ static void scan_segment(const struct dl_phdr_info *object, const ElfW(Phdr) *se
     scan_static(from, to, 0);
 }
 
+// Counted under threads.
 // This thread's is told by the loader; of others what is there.
 static void scan_local(const struct dl_phdr_info *object, size_t bytes)
 {
@@ -122,6 +124,7 @@ static void scan_local(const struct dl_phdr_info *object, size_t bytes)
     }
 }
 
+// Counted under roots, links, finalizers and kinds.
 static int scan_object(struct dl_phdr_info *object, size_t size, void *count)
 {
     bool is_main = (*(size_t *)count)++ == 0;

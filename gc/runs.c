@@ -7,6 +7,7 @@
 //                                                        (requests.c), and needn't look whether a collection was since
 //   "Each out parameter points to a number of its own, outside of every heap"   locals
 //   kinds are as the page's                              mpgc_learn, for each object
+// Counted under the rest.
 #include "layer.h"
 #include <string.h>
 

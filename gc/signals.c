@@ -7,6 +7,7 @@
 //   "Calls .. never from a signal handler that       every signal but those of faults is blocked under the collector's calls. Requests and
 //   interrupted one of them"                         frees don't block them: a handler that makes a call under one stops the program
 //                                                    (CALL), and what it writes to a closed page then is told when that call has returned
+// Counted under the rest.
 #include "layer.h"
 #include <errno.h>
 #include <sys/syscall.h>

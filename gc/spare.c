@@ -7,6 +7,7 @@
 //                                                     the program writes nothing between the end and this free.
 //
 // The cell that was freed is there for the object that is made, so that this is never refused.
+// Counted under the rest.
 #include "layer.h"
 
 enum { SPARE = 2 };  // the register that keeps it

@@ -5,6 +5,7 @@
 //   "`heap` points to an mpheap that was opened and has not been closed since"   mpheap_open_mapped_with, clause IsOpenedAs:
 //                                                            opened once, here, never closed, never copied
 //   its words lie where its addresses say                    mpheap_open_mapped maps them there, or the program stops
+// Counted under the rest.
 #include "layer.h"
 #include <stdlib.h>
 

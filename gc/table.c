@@ -1,4 +1,5 @@
 // Tables of what the layer knows of words and objects, by a number: a hidden address, so that no table keeps anything. Trusted, not proved.
+// Counted under roots, links, finalizers and kinds.
 #include "layer.h"
 #include <stdlib.h>
 

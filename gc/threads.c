@@ -9,6 +9,7 @@
 //
 // They are as many as the program makes: the core's mutators aren't its threads. All requests go by one mutator of the layer's, under the
 // lock, and another one holds the roots of all threads while a collection reads them (roots.c).
+// Counted under threads.
 #include "layer.h"
 #include "kernel/next.h"
 #include <errno.h>
@@ -315,6 +316,15 @@ void *GC_call_with_gc_active(GC_fn_type function, void *data)
     void *answer = function(data);
     become(BLOCKED);
     return answer;
+}
+
+bool mpgc_is_last_thread(void)
+{
+    mpgc_lock();
+    const struct thread *one = mpgc.threads;
+    while (one && (one == mpgc_self || one->state == ENDED)) one = one->next;
+    mpgc_unlock();
+    return !one;
 }
 
 // ---- What they have ----

@@ -14,6 +14,7 @@
 //
 // Nothing between stop and start may take a lock of the C library, as malloc and stdio do: a stopped thread may have it. That of the
 // loaded objects (dl_iterate_phdr) is held when the world is stopped, so that no stopped thread has it.
+// Counted under threads.
 #include "layer.h"
 #include <errno.h>
 #include <link.h>

@@ -139,14 +139,17 @@ fi
 
 # The names and the wrapped functions reach no more of the layer than front.h declares, and the compiler refuses them what could lose an
 # object.
-cat "$top/gc/front.h" "$top/gc/names/awaited.h" | grep -o '\bmpgc_[a-z_]*' | sort -u >"$room/front"
+grep -oh '\bmpgc_[a-z_]*' "$top/gc/front.h" "$top/gc/names/asked.h" | sort -u >"$room/asked"
+grep -oh '\bmpgc_[a-z_]*' "$top"/gc/front.h "$top"/gc/names/*.h | sort -u >"$room/front"
 for file in "$top"/gc/names/*.c "$top"/gc/kernel/*.c; do
     cc -std=c11 -O1 -fPIC -fvisibility=hidden -c "$file" -o "$room/reaching.o" 2>"$room/said"
     is "$(basename "$file") is compiled without the core" "" "$(cat "$room/said")"
     is "what $(basename "$file") reaches" "" \
         "$(nm -u "$room/reaching.o" | awk '{print $2}' | grep '^mpgc\|^mpheap' | sort | comm -23 - "$room/front")"
 done
-# And the audited files rest on nothing of theirs but what front.h says.
+# And the audited files rest on nothing of theirs but what asked.h declares, which does no more.
+is "what asked.h has besides declarations" "" "$(grep -vE '^(//.*|HIDDEN [^{}#]*;|struct figures \{|    (uint64_t|size_t|unsigned long|double) [a-z_, ]*; *(//.*)?|\};)?$' \
+    "$top/gc/names/asked.h")"
 mkdir "$room/audited" "$room/others"
 for file in "$top"/gc/*.c "$top"/gc/names/*.c "$top"/gc/kernel/*.c; do
     part=others
@@ -155,8 +158,8 @@ for file in "$top"/gc/*.c "$top"/gc/names/*.c "$top"/gc/kernel/*.c; do
 done
 nm --defined-only "$room"/others/*.o | awk 'NF == 3 && $2 ~ /[TDBRC]/ {print $3}' | sort -u >"$room/theirs"
 is "what the audited files ask" \
-    "GC_dont_gc GC_gc_no GC_get_abort_func GC_is_incremental_mode GC_non_gc_bytes GC_on_heap_resize GC_size" \
-    "$(nm -u "$room"/audited/*.o | awk 'NF == 2 {print $2}' | sort -u | comm -12 - "$room/theirs" | comm -23 - "$room/front" | paste -sd ' ')"
+    "GC_gc_no GC_get_abort_func GC_non_gc_bytes GC_on_heap_resize GC_size" \
+    "$(nm -u "$room"/audited/*.o | awk 'NF == 2 {print $2}' | sort -u | comm -12 - "$room/theirs" | comm -23 - "$room/asked" | paste -sd ' ')"
 # answered LINE: whether the compiler takes the line in a file of names.
 answered() {
     if printf '#include "../front.h"\n%s\n' "$1" | cc -std=c11 -fsyntax-only "-I$top/gc/names" -x c - 2>"$room/said"; then
@@ -179,6 +182,7 @@ named() { sed -n "s/.*$2 \([0-9,]*\) lines.*/\1/p" "$1" | tr -d ,; }
 code() { cat "$@" | grep -cvE '^ *(//.*)?$'; }
 is "lines that layer.h names" "$(code "$top"/gc/*.[ch])" "$(named "$top/gc/layer.h" 'break memory:')"
 is "audited lines" "$(code "$top"/gc/*.[ch])" "$(named "$top/docs/PROGRAMS.md" '\*\*audited\*\*,')"
+is "audited lines by what they are there for" "$("$top/gc/counts")" "$(grep -oE '\| [^|]* \| [0-9]+ \|$' "$top/docs/PROGRAMS.md")"
 is "lines of names" "$(code "$top"/gc/names/*)" "$(named "$top/docs/PROGRAMS.md" '\*\*names\*\*,')"
 is "lines of wrapped functions" "$(code "$top"/gc/kernel/*)" "$(named "$top/docs/PROGRAMS.md" '\*\*wrapped functions of the C library\*\*,')"
 

@@ -1,4 +1,4 @@
-// Whether the collector has a thread of its own, which marks while the program's threads run. (gc/collector.c is the thread; what is due to
+// Whether the collector has a thread of its own, which marks while the program's threads run. (collector.c is the thread; what is due to
 // it is said in pacing.c.)
 #include "../front.h"
 

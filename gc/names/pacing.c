@@ -4,7 +4,7 @@
 // one will read: twice what is kept of ordinary objects, a quarter of the pointer-free ones, and the roots; half as many before a cycle in
 // small steps. A full collection waits besides until the heap has filled the pages that it may have: where it has grown past them before so
 // much was asked for, it may have a third more. What the program has freed itself wasn't asked for, but for an eighth.
-#include "awaited.h"
+#include "paced.h"
 #include <stdlib.h>
 
 enum {
@@ -146,7 +146,7 @@ void mpgc_tidied(bool did_some)
 
 static int collect(GC_stop_func stop, bool unmaps)
 {
-    bool answer = mpgc_collect(stop);
+    bool answer = mpgc_collect_unless(stop);
     if (answer) mpgc_unmap(unmaps);
     return answer;
 }
@@ -156,8 +156,6 @@ void GC_gcollect(void) { (void)collect(mpgc_stop_func(), false); }
 void GC_gcollect_and_unmap(void) { (void)collect(NULL, true); }
 
 int GC_try_to_collect(GC_stop_func stop) { return collect(stop, false); }
-
-int GC_collect_a_little(void) { return mpgc_collect_a_little(); }
 
 void GC_enable_incremental(void)
 {

@@ -12,7 +12,7 @@
 // dirty pages than the one before it. Where no more than half a batch is dirty the roots are read once more, and then the cycle ends. And
 // behind a cycle with many faults the next one begins with its pages open, all of them dirty: none faults then before it was read again,
 // and a fault costs three times what reading a page again costs.
-#include "../front.h"
+#include "paced.h"
 
 enum {
     LEAST = 16, TIMES = 6,          // pages of a batch: at least, and for each that became dirty since the last batch

@@ -1,5 +1,5 @@
 // What the program is told, and by which functions of its own.
-#include "awaited.h"
+#include "paced.h"
 #include <stdio.h>
 #include <string.h>
 #include <unistd.h>

@@ -1,14 +1,15 @@
-// The collector's own thread, where the program asks for it: it does what is due step by step, while the program's threads run. Trusted,
-// not proved.
+// The collector's own thread, where the program asks for it: it does what is due step by step, while the program's threads run.
 //
-// It says when, and cycle.c what: so it owes the core nothing that isn't paid there, under the lock, which it gives back behind each step.
-// The program knows nothing of it, but the layer knows it as any other thread: its stack is read too, since functions of the program run
-// on it (finalizers don't). It counts as blocked, since without the lock it touches nothing: so no stop waits for it.
+// It says when, and the audited files what. The lock is given back behind each step. The program knows nothing of it, but the layer knows it
+// as any other thread: its stack is read too, since functions of the program run on it (finalizers don't). It counts as blocked, since
+// without the lock it touches nothing: so no stop waits for it.
 //
 // It is made when something is due first, and made again in the child of a fork, which goes on with the cycle that its parent had begun. It
 // ends when no other thread is left, so that the process does.
-#include "layer.h"
+#include "paced.h"
 #include <linux/futex.h>
+#include <pthread.h>
+#include <stdatomic.h>
 #include <sys/syscall.h>
 #include <unistd.h>
 
@@ -26,31 +27,31 @@ static void sleep_until_woken(uint32_t seen)
     sleeps = false;
 }
 
-static bool is_last(void)
-{
-    for (const struct thread *one = mpgc.threads; one; one = one->next)
-        if (one != mpgc_self && one->state != ENDED) return false;
-    return true;
-}
-
 // One step, under the lock. Answers whether there may be more to do.
-static bool look(void *unused)
+static bool look(void)
 {
     enum { WORDS = 1024 };
-    (void)unused;
-    is_there = !is_last();
+    is_there = !mpgc_is_last_thread();
     switch (is_there ? mpgc_due_to_collector() : NOTHING) {
     case TIDYING: mpgc_tidied(mpgc_tidy()); return true;
-    case STEP: mpgc_go_on(WORDS); return true;
+    case STEP: mpgc_step(WORDS); return true;
     default: return false;
     }
+}
+
+static bool look_alone(void)
+{
+    GC_alloc_lock();
+    bool answer = look();
+    GC_alloc_unlock();
+    return answer;
 }
 
 static void *go_on(void *data)
 {
     do {
         uint32_t seen = wakes;
-        if (mpgc_from_here(look, NULL))
+        if (look_alone())
             mpgc_give_way();
         else if (is_there)
             sleep_until_woken(seen);
@@ -60,20 +61,29 @@ static void *go_on(void *data)
 
 static void *collect_on(void *data) { return GC_do_blocking(go_on, data); }
 
-// Signals of the program come to its own threads.
+// Signals of the program come to its own threads, but for those of faults.
+static void block_signals(sigset_t *old)
+{
+    static const int of_faults[] = { SIGSEGV, SIGBUS, SIGFPE, SIGILL, SIGTRAP, SIGABRT };
+    sigset_t all;
+    sigfillset(&all);
+    for (size_t k = 0; k < sizeof of_faults / sizeof *of_faults; k++) sigdelset(&all, of_faults[k]);
+    pthread_sigmask(SIG_SETMASK, &all, old);
+}
+
 static bool start(void)
 {
     sigset_t old;
     pthread_t thread;
     pthread_attr_t attributes;
     GC_allow_register_threads();
-    mpgc_block_signals(&old);
+    block_signals(&old);
     pthread_attr_init(&attributes);
     pthread_attr_setdetachstate(&attributes, PTHREAD_CREATE_DETACHED);
     is_there = true;
     is_there = GC_pthread_create(&thread, &attributes, collect_on, NULL) == 0;
     pthread_attr_destroy(&attributes);
-    mpgc_restore_signals(&old);
+    pthread_sigmask(SIG_SETMASK, &old, NULL);
     return is_there;
 }
 

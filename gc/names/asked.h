@@ -1,0 +1,59 @@
+// What the audited files ask of the others, and rely on in nothing: any answer will do; and the figures. Here a struct of numbers and
+// functions are declared, and nothing is defined, which tests/gc.sh looks at: so nothing here changes what an audited file means.
+//
+// Besides they ask GC_get_abort_func and, for figures, GC_size; read GC_on_heap_resize; write GC_gc_no and GC_non_gc_bytes. tests/gc.sh has the list.
+
+// Figures, which everybody may write: whatever they say, no object is lost.
+struct figures {
+    uint64_t since, total, freed;  // words: asked for since the last collection and in all, and freed since
+    uint64_t next;                 // words asked for at which a request looks what is due
+    uint64_t marked;               // words of ordinary objects that the last collection has read
+    uint64_t roots;                // and of roots: bytes
+    size_t limit;                  // the most pages that the program lets the heap have
+    unsigned long cycles, full, faults, retraces;
+    double longest_cycle_end, longest_full, full_time;  // microseconds
+    unsigned long stops;                                // of other threads, with what their stopping took
+    double longest_stop, stop_time, longest_standing;    // the last: from the request to the going on
+};
+HIDDEN extern struct figures mpgc_figures;
+
+// pacing.c, collections.c, collector.c and beside.c. Whether collections are off; a request does what is due; whether the collector has a
+// thread of its own, and this is woken.
+HIDDEN void mpgc_set_budget(void);
+HIDDEN bool mpgc_is_off(void);
+HIDDEN bool mpgc_look(bool is_asked);
+HIDDEN bool mpgc_is_beside(void);
+HIDDEN bool mpgc_wake_collector(bool may_start);
+HIDDEN void mpgc_lose_collector(void);
+
+// steps.c
+HIDDEN enum piece mpgc_first_piece(void);
+HIDDEN enum piece mpgc_piece_after(enum piece piece, uint64_t did, uint64_t *left);
+HIDDEN void mpgc_drop_cycle(void);
+
+// figures.c
+HIDDEN double mpgc_now(void);
+HIDDEN void mpgc_count_collection(bool is_full, double start);
+HIDDEN void mpgc_count_stop(double took);
+HIDDEN void mpgc_count_standing(double took);
+
+// environment.c
+HIDDEN void mpgc_read_environment(void);
+
+// told.c
+HIDDEN void mpgc_tell_start(void);
+HIDDEN void mpgc_tell_end(void);
+HIDDEN void *mpgc_out_of_memory(size_t bytes);
+
+// finalizers.c and toggles.c, at a cycle's end, while no other thread runs; a request; and what is freed
+HIDDEN bool mpgc_has_to_find(void);
+HIDDEN void mpgc_mark_toggled(void);
+HIDDEN void mpgc_find_ready(void);
+HIDDEN void mpgc_take_ready(void);
+HIDDEN void mpgc_tell_ready(void);
+HIDDEN void mpgc_forget_finalizer(uintptr_t base);
+
+// ../kernel/masks.c and ../kernel/handlers.c
+HIDDEN const sigset_t *mpgc_without_faults(const sigset_t *signals, sigset_t *room);
+HIDDEN void mpgc_barrier_stands(const struct sigaction *old);
+HIDDEN void mpgc_pass_on(int number, siginfo_t *info, void *context);

@@ -1,0 +1,85 @@
+// What is due is done, and what the program asks for: collections that it may break off, and steps. Each is a call that anyone may make.
+#include "paced.h"
+
+// The cycle that marks ends, if there is one, or the program breaks it off: then it stands, and the next collection goes on with it.
+static bool end_unless(GC_stop_func stop)
+{
+    enum { WORDS = 4 * PAGE / WORD };
+    bool is_broken_off = false;
+    while (mpgc_is_marking() && !(is_broken_off = stop())) mpgc_step(WORDS);
+    if (!GC_is_incremental_mode()) mpgc_leave_open();
+    return !is_broken_off;
+}
+
+// A cycle begins at once, as far as the roots.
+static void begin_cycle(void)
+{
+    mpgc_skip_sweeping();
+    while (!mpgc_roots_are_read()) mpgc_step(0);
+}
+
+// What a cycle has marked that stood before is kept by that one, so another one begins when it has ended.
+static bool collect_unless(GC_stop_func stop)
+{
+    if (GC_dont_gc || (stop && stop())) return false;
+    if (!stop) {
+        mpgc_collect();
+        return true;
+    }
+    if (!end_unless(stop)) return false;
+    begin_cycle();
+    return end_unless(stop);
+}
+
+// A collection that the program may break off, by this function, if there is one.
+bool mpgc_collect_unless(GC_stop_func stop)
+{
+    GC_init();
+    GC_alloc_lock();
+    bool answer = collect_unless(stop);
+    GC_alloc_unlock();
+    mpgc_tell_ready();
+    return answer;
+}
+
+void mpgc_start_cycle(void)
+{
+    GC_alloc_lock();
+    if (!mpgc_is_marking()) begin_cycle();
+    GC_alloc_unlock();
+}
+
+// What the last collection left to do is done, in part. Answers whether there was some.
+bool mpgc_tidy(void)
+{
+    enum { SWEPT = 4 };
+    bool has_opened = mpgc_open_some(), has_swept = mpgc_sweep_some(SWEPT);
+    return has_opened || has_swept;
+}
+
+// What is due is done, by a request; or as the program asked for it.
+bool mpgc_look(bool is_asked)
+{
+    enum { WORDS = 1024 };
+    switch (mpgc_due(is_asked)) {
+    case NOTHING: break;
+    case TIDYING: mpgc_tidied(mpgc_tidy()); break;
+    case WAKE:
+        if (mpgc_wake_collector(true)) break;
+        mpgc_step(WORDS);
+        break;
+    case STEP: mpgc_step(WORDS); break;
+    case COLLECTION: (void)collect_unless(mpgc_stop_func()); break;
+    }
+    return mpgc_is_in_cycle();
+}
+
+int GC_collect_a_little(void)
+{
+    GC_init();
+    GC_alloc_lock();
+    bool answer = mpgc_look(true);
+    GC_alloc_unlock();
+    mpgc_tell_ready();
+    return answer;
+}
