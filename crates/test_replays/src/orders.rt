@@ -62,6 +62,7 @@ const TURNS: usize = 11;
 const ENDING: &[&str] = &["0 set 2 0", "0 load 2 3 0"];
 
 // What came of an order: counts that were answered.
+#[derive(Drop)]
 struct Order {
     /// Whether mutator 1 had made two calls when the cycle began.
     begins_late: bool,
