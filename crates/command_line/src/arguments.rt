@@ -1,8 +1,7 @@
 //! The words of the command line: which there may be, and the numbers among them.
-ghost use Rattle.std.specs.Prelude.{◌≡◌, ◌≤◌, Err, IfOk, IfErr};
+ghost use Rattle.std.specs.Prelude.{◌≡◌, ◌≤◌, ◌⊎◌, IfOk, IfErr};
 ghost use Rattle.words.specs.declared.limits.TheConstants.{MAX_PAGES};
-ghost use Rattle.programs.specs.declared.fault.Fault.TheVariants.{BadCommand};
-ghost use Rattle.command_line.specs.Obeying.{write_faults};
+ghost use Rattle.programs.specs.declared.fault.Fault.TheVariants.{BadCommand, Memory};
 
 use clap::error::ErrorKind;
 use clap::{Arg, ArgMatches, Command, Error};
@@ -64,7 +63,7 @@ pub(crate) fn command_line<'a>(alloc: Global) -> Result<Command<'a>, AllocError>
 
 /// A refused parse is that of no command, except out of memory.
 pub(crate) fn refused(error: &Error) -> Fault
-    ensures { write_faults (Err result) ≡ 0 }
+    ensures { (result ≡ BadCommand) ⊎ (result ≡ Memory) }
 {
     if error.kind() == ErrorKind::OutOfMemory {
         Fault::Memory

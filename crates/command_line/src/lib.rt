@@ -1,13 +1,18 @@
-//! The program around its words: they are read, the file that they name is opened, and what they say is done.
+//! The program around its words: they are read, the file that they name is opened, and what they ask for is done.
 //!
 //! # What is proved
 //!
-//! The program's status and what it tells are of one answer, which tells each fault of its input and its output, and with bad
-//! words it touches neither (`ProgramEnds`); which answer its words and its file lead to, and what is written, is only tested.
+//! `program` does what it is asked for and says how that ended (`ProgramEnds`): what is written answers the script that was read,
+//! or is of a run of the workload on threads, or the random script (`Does`), each fault of its input and its output is told, and with words of
+//! no request it touches neither. `read_words` answers requests alone that can be done. Which request words make, which file a name opens,
+//! and what is written to a file, is only tested.
 #![tactic(auto)]
 
 mod arguments;
 mod obeying;
+mod recording;
+mod request;
 mod running;
 
+pub use request::{Request, read_words};
 pub use running::program;

@@ -1,5 +1,5 @@
 //! Why the program ends with a status that isn't 0, and what it says of it.
-ghost use Rattle.std.specs.Prelude.{◌≡◌, ◌+◌, ◌<◌, ℕ, length, take, OnOk, OnErr};
+ghost use Rattle.std.specs.Prelude.{◌≡◌, ◌+◌, ◌<◌, ℕ, length, take, OnOk, OnErr, ◌⊎◌};
 ghost use Rattle.std.specs.IoError.{error_kind};
 ghost use Rattle.std.specs.declared.io.ErrorKind.TheVariants.{OutOfMemory};
 ghost use Rattle.std.specs.Io.KnownBytes.{Appends};
@@ -55,6 +55,7 @@ impl Fault {
     pub fn of_read(error: &Error) -> Fault
         ensures memory { error_kind error.now ≡ OutOfMemory → result ≡ Memory }
         ensures read { (error_kind error.now ≡ OutOfMemory → ⊥) → result ≡ Read }
+        ensures either { (result ≡ Read) ⊎ (result ≡ Memory) }
     {
         if error.kind() == ErrorKind::OutOfMemory {
             Fault::Memory
@@ -67,6 +68,7 @@ impl Fault {
     pub fn of_write(error: &Error) -> Fault
         ensures memory { error_kind error.now ≡ OutOfMemory → result ≡ Memory }
         ensures write { (error_kind error.now ≡ OutOfMemory → ⊥) → result ≡ WriteFile }
+        ensures either { (result ≡ WriteFile) ⊎ (result ≡ Memory) }
     {
         if error.kind() != ErrorKind::OutOfMemory {
             return Fault::WriteFile;

@@ -1,5 +1,5 @@
 -- Lines of the entries of a journal.
-use Rattle.std.specs.Prelude.{◌≡◌, ℕ, List, [], ◌∷◌, ◌++◌, codes, map}
+use Rattle.std.specs.Prelude.{◌≡◌, ℕ, Some, List, [], ◌∷◌, ◌++◌, take, slice_get, codes, map}
 use Rattle.std.specs.Borrow.{Bor}
 use Rattle.heap_spec.specs.Runs.{Start, Run, opening_start}
 use Rattle.replayer.specs.declared.hint.Hint.{Hint}
@@ -39,6 +39,24 @@ pub data AreLines (start : Start) : List Entry → List (List ℕ) → Run → T
   goes_on : (entries : List Entry) (lines : List (List ℕ)) (entry : Entry) (line : List ℕ) (run next : Run)
       → AreLines start entries lines run → IsLineOfEntry start run entry line next
       → AreLines start (entries ++ entry ∷ []) (lines ++ line ∷ []) next
+
+-- From the run no line of the entry leads on.
+abbrev pub HasNoLine : Start → Run → Entry → Type 0
+HasNoLine start run entry = (line : List ℕ) (next : Run) → IsLineOfEntry start run entry line next → ⊥
+
+-- The entry has no line from any run that a checker followed.
+abbrev pub WritesNone : ReplayerContents → Entry → Type 0
+WritesNone old entry = (start : Start) (run : Run) → Follows old start run → HasNoLine start run entry
+
+-- Entries that can't be written down: those before one of them have lines, which lead to a run from which it has none.
+pub record HaveNoLines (start : Start) (entries : List Entry) : Type 0 where
+  pub before : ℕ
+  pub entry : Entry
+  pub lines : List (List ℕ)
+  pub run : Run
+  pub is_entry : slice_get entries before ≡ Some entry
+  pub written : AreLines start (take before entries) lines run
+  pub none : HasNoLine start run entry
 
 -- These are the lines of the one history that explains the replies: of a history of entries that does, there is a line of each.
 pub record AreWritten (pages : ℕ) (lists : ActorLines) (replies : ActorReplies) (lines : List (List ℕ)) : Type 0 where
