@@ -13,6 +13,7 @@
 #include <time.h>
 #include "gc.h"
 #include "check.h"
+#include "watch.h"
 
 enum { THREADS = 3, NODES = 4000, SLOTS = 200 };
 
@@ -405,28 +406,16 @@ static int ends_with_its_last_thread(void)
     close(ends[1]);
     if (read(ends[0], &none, 1) != 0) return 0;
     close(ends[0]);
-    double end = now() + 40;
-    while (now() < end && (seen = waitpid(child, &status, WNOHANG)) == 0) pause_for(20000);
+    struct watched one = watched(child);
+    while ((seen = waitpid(child, &status, WNOHANG)) == 0 && !hangs(&one, 40)) continue;
     if (seen == 0) kill(child, SIGKILL);
     return seen == child && WIFEXITED(status) && WEXITSTATUS(status) == 0;
-}
-
-/* A process that ends this one if it hangs. It holds no output open, and ends behind it. */
-static pid_t watch(int seconds)
-{
-    pid_t parent = getpid(), child = fork();
-    if (child != 0) return child;
-    close(1);
-    close(2);
-    for (; seconds > 0 && getppid() == parent; seconds--) sleep(1);
-    if (getppid() == parent) kill(parent, SIGKILL);
-    _exit(0);
 }
 
 int main(int count, char **words)
 {
     double seconds = count > 1 ? atof(words[1]) : 2;
-    pid_t watcher = watch(1200);
+    pid_t watcher = watch(600);
     GC_set_free_space_divisor(40);
     GC_INIT();
     GC_enable_collector_thread();

@@ -12,6 +12,7 @@
 #include <time.h>
 #include "gc.h"
 #include "check.h"
+#include "watch.h"
 
 enum { THREADS = 4 };
 struct node { struct node *next; uint64_t value; };
@@ -279,18 +280,6 @@ static void looking(void)
     start(look);
     for (int k = 0; k < 200 || rounds < 100; k++) GC_gcollect();
     CHECK(stop());
-}
-
-/* A process that ends this one if it hangs. It holds no output open, and ends behind it. */
-static pid_t watch(int seconds)
-{
-    pid_t parent = getpid(), child = fork();
-    if (child != 0) return child;
-    close(1);
-    close(2);
-    for (; seconds > 0 && getppid() == parent; seconds--) sleep(1);
-    if (getppid() == parent) kill(parent, SIGKILL);
-    _exit(0);
 }
 
 static void within_time(void (*part)(void))
