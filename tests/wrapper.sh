@@ -101,10 +101,10 @@ ends_at_once() {
     is "$1: no folder is left" "" "$(ls -A "$TMPDIR")"
 }
 
-# until_true COMMAND..: waits until it says yes, ten seconds at most.
+# until_true COMMAND..: waits until it says yes, two minutes at most.
 until_true() {
     local look
-    for look in {1..100}; do
+    for look in {1..1200}; do
         "$@" && return
         sleep 0.1
     done
