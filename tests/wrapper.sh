@@ -90,14 +90,14 @@ answers() {
 # within MOST SECONDS: yes, or how many it were.
 within() { if [ "$2" -le "$1" ]; then echo yes; else echo "$2 s"; fi; }
 
-# ends_at_once WHAT PROCESS: a signal ends the wrapper that is this process within five seconds, and nothing is left of its run.
+# ends_at_once WHAT PROCESS: a signal ends the wrapper that is this process within thirty seconds, and nothing is left of its run.
 ends_at_once() {
     local began=$SECONDS
     kill -TERM "$2"
     status=0
     wait "$2" 2>/dev/null || status=$?
     is "$1: status" 143 "$status"
-    is "$1: at once" yes "$(within 5 $((SECONDS - began)))"
+    is "$1: at once" yes "$(within 30 $((SECONDS - began)))"
     is "$1: no folder is left" "" "$(ls -A "$TMPDIR")"
 }
 

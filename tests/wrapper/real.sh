@@ -50,8 +50,8 @@ real_runs() {
         "$(lines "mpheap: an unproved build, which an earlier run made of these sources: for a first look" "bad line 4")" "$(cat second)"
     is "the real rt, a kept build: the same replies" "$(cat out)" "$(cat again)"
     is "the real rt, a kept build: more than 1 MiB of replies" "$(lines "mutator 0" ok; yes 18446744073709551615 | head -n 60000)" "$(cat long)"
-    is "the real rt, a kept build: it begins at once" yes "$(within 10 "$(cat took)")"
+    is "the real rt, a kept build: it begins at once" yes "$(within 30 "$(cat took)")"
     cd "$room/alone/stopped" || exit 1
-    is "the real rt, stopped: at once" yes "$(within 5 "$(cat took)")"
+    is "the real rt, stopped: at once" yes "$(within 30 "$(cat took)")"
     is "the real rt, stopped: nothing is left" "" "$(ls -A temporary)$(cat left)"
 }
