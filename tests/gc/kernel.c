@@ -246,7 +246,8 @@ static void of_clocks(void)
     struct timeval *now = place(28);
     time_t *seconds = place(32);
     CHECK(clock_getres(CLOCK_PROCESS_CPUTIME_ID, grain) == 0 && grain->tv_nsec > 0);
-    CHECK(gettimeofday(now, NULL) == 0 && now->tv_sec > 0 && time(seconds) == *seconds && *seconds >= now->tv_sec);
+    /* time() reads a coarser clock, which is behind at the turn of a second */
+    CHECK(gettimeofday(now, NULL) == 0 && now->tv_sec > 0 && time(seconds) == *seconds && *seconds + 1 >= now->tv_sec);
     struct itimerspec late = { { 0, 0 }, { 1000, 0 } }, *left = place(36), *was = place(40), *more = place(44), *once = place(48);
     timer_t timer;
     CHECK(timer_create(CLOCK_MONOTONIC, &(struct sigevent){ .sigev_notify = SIGEV_NONE }, &timer) == 0);
