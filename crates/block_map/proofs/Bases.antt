@@ -1,11 +1,15 @@
 -- The object with a base, from what stands on the base's page.
-use Rattle.std.proofs.Common.{◌≡◌, ℕ, ◌<◌, ◌≤◌, List, length, None, Some, sym, ap, ◌∙◌, subst, arith}
+use Rattle.std.proofs.Common.{◌≡◌, ℕ, ◌<◌, ◌≤◌, List, length, None, Some, refl, sym, ap, ◌∙◌, subst, arith}
 use Rattle.std.proofs.lemmas.Option.{same_Some}
+use Rattle.words.specs.declared.class.Kind.{Kind}
 use Rattle.words.specs.declared.limits.TheConstants.{FIRST_ADDRESS}
 use Rattle.words.specs.Layout.{page_of, page_start, IsOnPage}
 use Rattle.words.proofs.Addresses.{on_its_page}
 use Rattle.blocks.specs.Cells.{Cells}
-use Rattle.block_map.specs.States.{PageState, free, cut, body, state_at, LaidAt, IsLaid}
+use Rattle.block_map.specs.States.{PageState, free, cut, head, body, state_at, LaidAt, IsLaid}
+use Rattle.block_map.specs.declared.page.Page.{Page}
+use Rattle.block_map.specs.declared.page.Page.TheVariants.{Free, Cut, Head, Body}
+use Rattle.block_map.specs.Shown.{shown}
 use Rattle.block_map.specs.Objects.{large_object}
 use Rattle.block_map.specs.FoundIn.{found_in, found_in_block, found_large, IsLawful}
 use Rattle.block_map.specs.declared.found.Found.{Found}
@@ -43,3 +47,9 @@ module _ (s : List PageState) (p w : ℕ) (h : HasBase s p w) where
 
   pub cut_base : (b : Cells) → state_at s p ≡ cut b → (f : Found) × (found_in_block p b w ≡ Some f) × (f.base ≡ w)
   cut_base b e = (h.object, sym (found_as s p w (cut b) h.on e) ∙ h.is, h.base)
+
+  pub head_base : IsLaid s → (x : Page) → state_at s p ≡ shown x → ((b : Cells) → x ≡ Cut b → ⊥) → (n : ℕ) × (k : Kind) × (state_at s p ≡ head n k)
+  head_base laid Free is other = absurd (free_base is)
+  head_base laid (Cut b) is other = absurd (other b refl)
+  head_base laid (Head large) is other = (large.pages, large.kind, is)
+  head_base laid (Body q) is other = absurd (body_base q laid is)

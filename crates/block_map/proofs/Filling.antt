@@ -1,9 +1,8 @@
 -- Loops over the pages of a map, seen as their states.
-use Rattle.std.proofs.Common.{◌≡◌, ℕ, ◌+◌, ◌<◌, Bool, true, false, List, [], ◌∷◌, ◌++◌, length, map, set, get_or, ap, ◌∙◌, arith, get_or-set_same}
+use Rattle.std.proofs.Common.{◌≡◌, ℕ, ◌<◌, Bool, true, false, List, length, map, set, get_or, ap, ◌∙◌, arith, get_or-set_same}
 use Rattle.std.specs.Prelude.{MatchBool}
 use Rattle.std.proofs.lemmas.List.{map-set, get_or-map, length-map}
 use Rattle.block_map.specs.declared.page.Page.{Page}
-use Rattle.block_map.specs.declared.page.Page.TheVariants.{Free}
 use Rattle.block_map.specs.declared.found.Put.{Put}
 use Rattle.words.specs.Bits.{IsEmptyFrom, IsFirstClearFrom, IsFirstFrom, IsFullRow}
 use Rattle.words.specs.Classes.{IsSizeClass}

@@ -126,3 +126,23 @@ block_cases p i b f false t e = absurd (cc e)
 
 pub block_object : (p w : ℕ) (b : Cells) (f : Found) → found_in_block p b w ≡ Some f → (f ≡ cell_object p b (cell_at b w)) × (cell_at b w < length b.taken)
 block_object p w b f e = block_cases p (cell_at b w) b f (get_or b.taken (cell_at b w) false) refl e
+
+-- it lies on its page
+pub block_on_page : (p w : ℕ) (b : Cells) → IsCells b → ((f : Found) × (found_in_block p b w ≡ Some f) × (f.base ≡ w)) → w % PAGE_BYTES + 8 * b.class ≤ PAGE_BYTES
+block_on_page p w b cells f =
+    let o = block_object p w b f.0 f.1 in
+    let at : page_start p + cell_at b w * (8 * b.class) ≡ w = sym (ap (λ (x : Found). x.base) o.0) ∙ f.2 in
+    let size = cells.size in
+    let inside = o.1 in
+    let fits = cell_fits b.class (cell_at b w) (omega (arith, inside, size)) in
+    let some = (class_bounds b.class cells.class).0 in
+    omega (arith, at, fits, some)
+
+-- the large object that begins on a page, which it covers alone if it is no larger
+pub head_object : (s : List PageState) (p w n : ℕ) (k : Kind) (r : Found) → IsOnPage p w → state_at s p ≡ head n k → found_large p (state_at s p) ≡ Some r
+    → (found_in s w ≡ Some r) × (r.len ≤ PAGE_WORDS → r.base % PAGE_BYTES + 8 * r.len ≤ PAGE_BYTES)
+head_object s p w n k r at is e =
+    let o : r ≡ large_object p n k = sym (same_Some _ _ (sym (ap (found_large p) is) ∙ e)) in
+    let base : r.base ≡ page_start p = ap (λ (x : Found). x.base) o in
+    let len : r.len ≡ PAGE_WORDS * n = ap (λ (x : Found). x.len) o in
+    (sym (on_head s p w n k r at is o), λ few. omega (arith, base, len, few))

@@ -2,7 +2,7 @@
 use Rattle.std.specs.Prelude.{◌≡◌, ℕ, ◌+◌, ◌*◌, ◌%◌, ◌<◌, ◌≤◌, true, false, List, length, slice_index_or, MatchOption, Option, Some}
 use Rattle.words.specs.declared.class.Kind.{Kind}
 use Rattle.words.specs.declared.class.Kind.TheVariants.{Normal}
-use Rattle.words.specs.declared.limits.TheConstants.{FIRST_ADDRESS, GRANULE_BYTES, WORD_BYTES, PAGE_WORDS}
+use Rattle.words.specs.declared.limits.TheConstants.{FIRST_ADDRESS, GRANULE_BYTES, PAGE_BYTES, WORD_BYTES, PAGE_WORDS}
 use Rattle.blocks.specs.Cells.{Cells}
 use Rattle.words.specs.Layout.{page_start}
 use Rattle.block_map.specs.States.{PageState, free, cut, head, body, state_at}
@@ -45,6 +45,10 @@ abbrev pub IsFoundOrNone : List PageState → ℕ → Option Found → Type 0
 IsFoundOrNone states w r =
     MatchOption r ((f : Found) → IsObject states f → IsInside w f → ⊥)
     (λ f. IsObject states f × IsInside w f × ((g : Found) → IsObject states g → IsInside w g → g ≡ f))
+
+-- an object that is no larger than a page lies on one
+abbrev pub LiesOnPage : Found → Type 0
+LiesOnPage f = f.len ≤ PAGE_WORDS → f.base % PAGE_BYTES + WORD_BYTES * f.len ≤ PAGE_BYTES
 
 -- where an object lies in a heap of so many pages
 pub record IsPlaced (pages : ℕ) (f : Found) : Type 0 where

@@ -239,6 +239,18 @@ free_one words page class cell w row free = record {
   others = λ k out. get_or-set_other words (word_index (cell_start page class cell)) k w 0 (out cell free);
 }
 
+-- a free cell is linked before those above it
+pub cell_more : (words words' : List ℕ) (page class : ℕ) (row : List Bool) (cell next address w : ℕ) → IsSizeClass class → HasPage words page → length row ≡ PAGE_WORDS / class → get_or row cell true ≡ false
+    → IsLinkedFrom (link_of words page class) row (cell + 1) next → address ≡ cell_start page class cell → w ≡ next → words' ≡ with_word_at words address w → IsLinkedFrom (link_of words' page class) row cell cell × ChangesFree words words' page class row
+cell_more words words' page class row cell next address w is has size free h at says written =
+    rw (written, at, says) (
+      linked_more (link_of words page class) (link_of (with_word_at words (cell_start page class cell) next) page class) row cell next free
+          (link_here words page class cell next is has (let lt = (free_here row cell free).inside in omega arith))
+          (λ i ne. link_other words page class cell i next is ne)
+          h,
+      free_one words page class cell next row (free_here row cell free),
+    )
+
 -- they are the page's
 pub free_page : (words words' : List ℕ) (page class : ℕ) (row : List Bool) → IsSizeClass class → length row ≡ PAGE_WORDS / class → ChangesFree words words' page class row → ChangesPage words words' page
 free_page words words' page class row is size h = record {
@@ -294,16 +306,7 @@ pub word_more : (words words' : List ℕ) (page class : ℕ) (row : List Bool) (
     → IsLinkedFrom (link_of words page class) row (64 * j + to) first → rest < 2 ^ 64 → IsTop rest top → cell ≡ 64 * j + top → address ≡ cell_start page class cell → w ≡ first → words' ≡ with_word_at words address w
     → IsLinkedFrom (link_of words' page class) row (64 * j + top) cell × ChangesFree words words' page class row
 word_more words words' page class row j word rest to first top cell address w is has size clear l h fits t place at says written =
-    rw (written, at, says, place) (
-      linked_more (link_of words page class) (link_of (with_word_at words (cell_start page class (64 * j + top)) first) page class) row (64 * j + top) first free
-          (link_here words page class (64 * j + top) first is has (let lt = (free_here row (64 * j + top) free).inside in omega arith))
-          (λ i ne. link_other words page class (64 * j + top) i first is ne)
-          (down_to row j word clear (link_of words page class) rest to first l h top fits t),
-      free_one words page class (64 * j + top) first row (free_here row (64 * j + top) free),
-    )
-  where
-    free : get_or row (64 * j + top) true ≡ false
-    free = top_free row j word clear (link_of words page class) rest to first l h top fits t
+    rw place (cell_more words words' page class row (64 * j + top) first address w is has size (top_free row j word clear (link_of words page class) rest to first l h top fits t) (down_to row j word clear (link_of words page class) rest to first l h top fits t) (rw place at at) says written)
 
 pub some_cells : (class : ℕ) → IsSizeClass class → 0 < PAGE_WORDS / class
 some_cells class is =

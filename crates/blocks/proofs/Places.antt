@@ -1,13 +1,11 @@
 -- Cells of a page by division.
-use Rattle.std.proofs.Common.{◌≡◌, ℕ, ◌+◌, ◌*◌, ◌/◌, ◌%◌, ◌<◌, ◌≤◌, sym, subst, arith}
+use Rattle.std.proofs.Common.{◌≡◌, ℕ, ◌+◌, ◌*◌, ◌/◌, ◌%◌, ◌<◌, ◌≤◌, arith}
 use Rattle.std.proofs.lemmas.Nat.{div-add-mod', mod_below}
 use Rattle.std.proofs.Math.Nat.{mul-le-mul_right, mul-le-mul_left}
-use Rattle.words.specs.declared.limits.TheConstants.{GRANULE_BYTES, PAGE_BYTES, PAGE_GRANULES, PAGE_WORDS, MAX_SMALL_WORDS}
+use Rattle.words.specs.declared.limits.TheConstants.{PAGE_BYTES, PAGE_GRANULES, PAGE_WORDS, MAX_SMALL_WORDS}
 use Rattle.words.specs.Classes.{IsSizeClass}
 use Rattle.words.proofs.Classes.{class_some, class_few}
-use Rattle.blocks.specs.declared.reciprocal.TheConstants.{WHOLE}
 use Rattle.blocks.specs.Cells.{IsInCell, IsLeftOver}
-use Rattle.blocks.specs.Reciprocals.{IsReciprocal}
 use Rattle.blocks.proofs.Reciprocals.{quotient, product_fits}
 
 pub class_bounds : (c : ℕ) → IsSizeClass c → (2 ≤ c) × (c ≤ MAX_SMALL_WORDS)
@@ -26,22 +24,27 @@ quotient_le n c h =
     let m : n / c * 2 ≤ n / c * c = mul-le-mul_left (n / c) h in
     omega arith
 
-pub found_cell : (c r o : ℕ) → IsSizeClass c → IsReciprocal c r → o < PAGE_BYTES → o / GRANULE_BYTES * r / WHOLE < PAGE_WORDS / c → IsInCell c (o / GRANULE_BYTES * r / WHOLE) o
-found_cell c r o h by few lt =
+pub found_cell : (c o : ℕ) → IsSizeClass c → o / (8 * c) < PAGE_WORDS / c → IsInCell c (o / (8 * c)) o
+found_cell c o h lt =
     let b = class_bounds c h in
     let d = divided o (8 * c) (omega arith) in
-    let e = quotient c r o h by few in
-    record { cell = lt; from = subst (λ q. q * (8 * c) ≤ o) (sym e) d.0; below = subst (λ q. o < q * (8 * c) + 8 * c) (sym e) d.1 }
+    record { cell = lt; from = d.0; below = d.1 }
 
-pub left_over : (c r o : ℕ) → IsSizeClass c → IsReciprocal c r → o < PAGE_BYTES → PAGE_WORDS / c ≤ o / GRANULE_BYTES * r / WHOLE → IsLeftOver c o
-left_over c r o h by few le =
+pub left_over : (c o : ℕ) → IsSizeClass c → PAGE_WORDS / c ≤ o / (8 * c) → IsLeftOver c o
+left_over c o h le =
     let b = class_bounds c h in
     let d = divided o (8 * c) (omega arith) in
-    let e = quotient c r o h by few in
-    let m : PAGE_WORDS / c * (8 * c) ≤ o / (8 * c) * (8 * c) = mul-le-mul_right (8 * c) (omega (arith, le, e)) in
+    let m : PAGE_WORDS / c * (8 * c) ≤ o / (8 * c) * (8 * c) = mul-le-mul_right (8 * c) le in
     omega (arith, m, d.0)
+
+pub quotient_small : (c o : ℕ) → IsSizeClass c → o < PAGE_BYTES → o / (8 * c) < 65536
+quotient_small c o h lt =
+    let b = class_bounds c h in
+    let d = divided o (8 * c) (omega arith) in
+    let m : o / (8 * c) * 1 ≤ o / (8 * c) * (8 * c) = mul-le-mul_left (o / (8 * c)) (omega arith) in
+    omega (arith, m, d.0, lt)
 
 pub cells_fit : (c : ℕ) → IsSizeClass c → PAGE_WORDS / c ≤ PAGE_GRANULES
 cells_fit c h = let b = class_bounds c h in quotient_le PAGE_WORDS c b.0
 
-pub ruleset places = (class_bounds, found_cell, left_over, cells_fit, product_fits)
+pub ruleset places = (class_bounds, found_cell, left_over, cells_fit, product_fits, quotient, quotient_small)

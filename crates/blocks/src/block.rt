@@ -2,7 +2,7 @@
 //! an allocated cell, and the number of its first free cell.
 ghost use Rattle.std.specs.Prelude.{◌≡◌, ◌+◌, ◌≤◌, ◌*◌, ◌/◌, ◌%◌, ◌<◌, ◌==◌, ◌≢◌, ℕ, true, false};
 ghost use Rattle.std.specs.Prelude.{List, length, replicate, slice_index_or, slice_set, take, MatchOption, MatchBool, IfSome, IfNone};
-ghost use Rattle.words.specs.declared.limits.TheConstants.{PAGE_WORDS, PAGE_BYTES, PAGE_GRANULES, MOST_PAGES};
+ghost use Rattle.words.specs.declared.limits.TheConstants.{PAGE_WORDS, PAGE_BYTES, PAGE_GRANULES, MOST_PAGES, WORD_BYTES};
 ghost use Rattle.words.specs.Bits.{members, IsFullRow, IsEmptyFrom, IsFirstClearFrom, IsFirstFrom};
 ghost use Rattle.words.specs.Classes.{IsSizeClass};
 ghost use Rattle.pages.specs.Memory.{with_word_at};
@@ -11,7 +11,7 @@ ghost use Rattle.blocks.specs.Lists.{cell_start, first_after_put, link_of, Chang
 ghost use Rattle.blocks.specs.Sweeps.{SweepsCells};
 ghost use Rattle.blocks.specs.declared.list.TheConstants.{LIST_END, UNLISTED};
 
-use crate::list::{LIST_END, UNLISTED, link_free, start_of};
+use crate::list::{LIST_END, UNLISTED, link_all, link_free, start_of};
 use crate::reciprocal::{WHOLE, reciprocal_of};
 use pages::Memory;
 use std::marker::Model;
@@ -53,17 +53,16 @@ impl Block {
         ensures listed { IsListed memory.new page result }
         ensures memory { ChangesPage memory.old memory.new page }
     {
-        // Its number of cells comes first, so that it is divided but once.
-        let taken = CellRow::new(class.cells());
+        let cells = class.cells();
         // Its clauses tell that the class is one.
         let _words = class.words();
-        let first = link_free(memory, class, page, &taken);
+        link_all(memory, class, page, cells);
         Block {
             class,
             kind,
             reciprocal: reciprocal_of(class),
-            taken,
-            first,
+            taken: CellRow::new(cells),
+            first: 0,
         }
     }
 
@@ -92,17 +91,27 @@ impl Block {
         self.taken.len()
     }
 
+    /// The number of the cell that the byte at an address of the page would have, if there were cells up to the page's end. It
+    /// multiplies by the class's reciprocal, since a division by a number that isn't constant is slow.
+    #[inline]
+    pub fn cell_under(&self, address: u64) -> u16
+        ensures cell { result ≡ address % PAGE_BYTES / (WORD_BYTES * self.now.class) }
+        ensures cells { IsCells self.now }
+    {
+        let granule = (address % PAGE_BYTES / GRANULE_BYTES) as u32;
+        (granule * self.reciprocal / WHOLE) as u16
+    }
+
     /// The cell that has the byte at an address of the page, and `None` exactly for the words left over at the page's
-    /// end. It multiplies by the class's reciprocal, since a division by a number that isn't constant is slow.
+    /// end.
     #[inline]
     pub fn cell_of(&self, address: u64) -> Option<u16>
         ensures cell { MatchOption result (IsLeftOver self.now.class (address % PAGE_BYTES)) (λ i. IsInCell self.now.class i (address % PAGE_BYTES)) }
         ensures cells { IsCells self.now }
     {
-        let granule = (address % PAGE_BYTES / GRANULE_BYTES) as u32;
-        let cell = granule * self.reciprocal / WHOLE;
-        if cell < u32::from(self.taken.len()) {
-            Some(cell as u16)
+        let cell = self.cell_under(address);
+        if cell < self.taken.len() {
+            Some(cell)
         } else {
             None
         }

@@ -1,5 +1,5 @@
 //! The free cells of a page as a list: the first word of each has the number of the next one.
-ghost use Rattle.std.specs.Prelude.{◌≡◌, ◌+◌, ◌*◌, ◌/◌, ◌<◌, ◌≤◌, length};
+ghost use Rattle.std.specs.Prelude.{◌≡◌, ◌+◌, ◌*◌, ◌/◌, ◌<◌, ◌≤◌, false, length, replicate};
 ghost use Rattle.words.specs.declared.limits.TheConstants.{PAGE_WORDS, MOST_PAGES};
 ghost use Rattle.words.specs.Classes.{IsSizeClass};
 ghost use Rattle.blocks.specs.Lists.{cell_start, link_of, ChangesFree, ChangesPage, HasPage, IsFirstOrEnd, IsLinkedFrom, Lists};
@@ -56,6 +56,24 @@ fn link_word(
         rest &= !(1 << bit);
     }
     next
+}
+
+// Makes all cells of a page, so many, a list in their order: the first one is 0.
+pub(crate) fn link_all(memory: &mut Memory, class: Class, page: PageNo, cells: u16)
+    requires page { page < MOST_PAGES }
+    requires has { HasPage memory.old page }
+    requires class { IsSizeClass class }
+    requires cells { cells ≡ PAGE_WORDS / class }
+    ensures lists { Lists (link_of memory.new page class) (replicate cells false) 0 }
+    ensures page { ChangesPage memory.old memory.new page }
+{
+    let mut next = LIST_END;
+    let mut cell = cells;
+    while cell > 0 {
+        cell -= 1;
+        memory.write(start_of(class, page, cell), u64::from(next));
+        next = cell;
+    }
 }
 
 // Makes the free cells of a page a list in their order. Answers the first one.

@@ -135,7 +135,7 @@ pub record EndsMarking (old new : CoreContents) : Type 0 where
 -- A cycle ends: exactly the objects outside of the closure of the marks go, so many, the small ones only when their pages are
 -- swept. The pending pages are then the blocks with an unmarked allocated object. Each carried page was carried before, or a
 -- stray word of an object of that closure stands on it. Heap words were read at most as many as the pages have that were dirty,
--- and those that newly marked objects cover, and as the entries had left.
+-- for each newly marked object as the pages have that it covers, and as the entries had left.
 pub record EndsCycle (old : CoreContents) (n : ℕ) (new : CoreContents) : Type 0 where
   pub ends : EndsMarking old new
   pub needs_full : new.cycle.needs_full ≡ old.cycle.needs_full

@@ -84,6 +84,15 @@ tells_append found bytes ws vs a b x y = record {
   none = λ e w h. let both = or_false a b e in ⊎_elim (x.none both.0 w) (y.none both.1 w) (Contains-append_cases ws vs w h);
 }
 
+-- the same where it is known of the later words
+pub tells_also : (found : ℕ → Option Found) (bytes : ℕ) (ws vs : List ℕ) (a : Bool) → TellsStray found bytes ws a → TellsStray found bytes vs true → TellsStray found bytes (ws ++ vs) true
+tells_also found bytes ws vs true x y = tells_append found bytes ws vs true true x y
+tells_also found bytes ws vs false x y = tells_append found bytes ws vs false true x y
+
+pub tells_still : (found : ℕ → Option Found) (bytes : ℕ) (ws vs : List ℕ) (a : Bool) → TellsStray found bytes ws a → TellsStray found bytes vs false → TellsStray found bytes (ws ++ vs) a
+tells_still found bytes ws vs true x y = tells_append found bytes ws vs true false x y
+tells_still found bytes ws vs false x y = tells_append found bytes ws vs false false x y
+
 pub tells_nothing : (found : ℕ → Option Found) (bytes : ℕ) → TellsStray found bytes [] false
 tells_nothing found bytes = record { some = λ e. absurd (false≢true e); none = λ e w h. absurd (let l = h.1 in omega arith) }
 

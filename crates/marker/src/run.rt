@@ -83,7 +83,9 @@ impl Marker {
     {
         let mut stray = false;
         for word in words {
-            stray |= self.mark_word(map, heap_bytes, word);
+            if self.mark_word(map, heap_bytes, word) {
+                stray = true;
+            }
         }
         stray
     }

@@ -1,6 +1,7 @@
 //! The marking of the object that one word points into.
-ghost use Rattle.std.specs.Prelude.{◌≡◌, ◌+◌, ◌*◌, ◌<◌, ◌≤◌, [], ◌∷◌, length};
+ghost use Rattle.std.specs.Prelude.{◌≡◌, ℕ, ◌+◌, ◌*◌, ◌<◌, ◌≤◌, [], ◌∷◌, length, Option, Some};
 ghost use Rattle.words.specs.declared.limits.TheConstants.{FIRST_ADDRESS, PAGE_BYTES};
+ghost use Rattle.block_map.specs.declared.found.Found.{Found};
 ghost use Rattle.block_map.specs.Objects.{IsPlaced};
 ghost use Rattle.block_map.specs.FoundIn.{found_in, IsLawful};
 ghost use Rattle.marker.specs.Growth.{Awaits, MarksWord, TellsStray};
@@ -32,9 +33,28 @@ impl Marker {
     }
 
     // Marks the object that a word points into, if it points into one. Most words point into none, so that the loop over
-    // words is to hold the test of the range and not this. Answers whether it points into none.
+    // words is to hold the test of the range and not this. Answers whether it points into none. Most pages are cut, so that
+    // what is on others is looked up elsewhere.
     #[inline(never)]
     fn mark_target(&mut self, map: &BlockMap, word: u64) -> bool
+        requires pages { length self.old.dirty ≡ length map.now }
+        requires inside { (FIRST_ADDRESS ≤ word) × (word < FIRST_ADDRESS + PAGE_BYTES * length map.now) }
+        ensures marks { MarksWord (found_in map.now) word self.old self.new }
+        ensures stray { TellsStray (found_in map.now) (PAGE_BYTES * length map.now) (word ∷ []) result }
+    {
+        let Some(answer) = map.find_in_cell(word) else {
+            return self.mark_elsewhere(map, word);
+        };
+        let Some(found) = answer else {
+            return true;
+        };
+        self.mark_found(found);
+        false
+    }
+
+    // The same, wherever the word points.
+    #[inline(never)]
+    fn mark_elsewhere(&mut self, map: &BlockMap, word: u64) -> bool
         requires pages { length self.old.dirty ≡ length map.now }
         requires inside { (FIRST_ADDRESS ≤ word) × (word < FIRST_ADDRESS + PAGE_BYTES * length map.now) }
         ensures marks { MarksWord (found_in map.now) word self.old self.new }
@@ -43,13 +63,22 @@ impl Marker {
         let Some(found) = map.find(word) else {
             return true;
         };
+        self.mark_found(found);
+        false
+    }
+
+    // Marks an object that a word points into.
+    #[inline]
+    fn mark_found(&mut self, found: Found)
+        requires placed { IsPlaced (length self.old.dirty) found }
+        ensures { (objects : ℕ → Option Found) (word : ℕ) → objects word ≡ Some found → MarksWord objects word self.old self.new }
+    {
         let granule = granule_of(found.base);
         if self.marks.is_set(granule) {
-            return false;
+            return;
         }
         self.marks.set(granule);
         self.await_words(found);
-        false
     }
 
     // Sees to it that the words of a newly marked object are read.

@@ -1,9 +1,9 @@
 //! Objects that are read whole, one after the other. Most are small and their entries were pushed in the same step, so that
 //! a step spends its time here.
 ghost use Rattle.std.specs.Prelude.{◌≡◌, ℕ, ◌+◌, ◌*◌, ◌<◌, ◌≤◌, ◌++◌, ◌∷◌, [], List, length, true, IfSome, Some};
-ghost use Rattle.words.specs.declared.limits.TheConstants.{MOST_PAGES, PAGE_BYTES, PAGE_WORDS};
+ghost use Rattle.words.specs.declared.limits.TheConstants.{FIRST_ADDRESS, MOST_PAGES, PAGE_BYTES, PAGE_WORDS};
 ghost use Rattle.words.specs.Layout.{page_of};
-ghost use Rattle.block_map.specs.Objects.{IsPlaced};
+ghost use Rattle.block_map.specs.Objects.{IsPlaced, LiesOnPage};
 ghost use Rattle.block_map.specs.FoundIn.{found_in, IsLawful};
 ghost use Rattle.marker.specs.Marking.{with_current, word_address};
 ghost use Rattle.marker.specs.Entries.{IsSpent, IsOnTop, AreUnreadFrom, ReadsNext, Takes};
@@ -12,16 +12,17 @@ use crate::entry::Entry;
 use crate::marker::Marker;
 use block_map::{BlockMap, Found};
 use pages::Reader;
-use words::limits::{PAGE_BYTES, WORD_BYTES};
+use words::limits::PAGE_WORDS;
 
 // Whether the words of an object are at most so many, and stand on one page.
 #[inline]
 fn is_whole(found: Found, most: u64) -> bool
+    requires above { FIRST_ADDRESS ≤ found.base }
+    requires on_page { LiesOnPage found }
     ensures most { result ≡ true → found.len ≤ most }
     ensures one_page { result ≡ true → (i : ℕ) → 0 ≤ i → i < 0 + found.len → page_of (word_address found i) ≡ page_of (word_address found 0) }
 {
-    let on_page = (PAGE_BYTES - found.base % PAGE_BYTES) / WORD_BYTES;
-    u64::from(found.len) <= most.min(on_page)
+    u64::from(found.len) <= most.min(PAGE_WORDS)
 }
 
 impl Marker {
@@ -31,6 +32,7 @@ impl Marker {
         requires { AreUnreadFrom (found_in map.now) self.now known self.now.stack }
         ensures top { IfSome result (λ f. IsOnTop (found_in map.now) self.now f) }
         ensures placed { IfSome result (λ f. IsPlaced (length map.now) f) }
+        ensures on_page { IfSome result LiesOnPage }
         ensures known { IfSome result (λ f. known < length self.now.stack) }
     {
         let waiting = self.waiting();

@@ -104,8 +104,8 @@ impl Core {
     }
 
     /// Ends the cycle: marks on until nothing is left to read, and forgets the objects that aren't marked. Answers how many. It
-    /// reads at most the words of the pages that were dirty and of those that newly marked objects cover, and what the
-    /// entries had left.
+    /// reads at most the words of the pages that were dirty, for each newly marked object those of the pages that it covers,
+    /// and what the entries had left.
     pub fn finish(&mut self) -> Result<u64, Refusal>
         ensures { IsGrantedInPhase true self.old result self.new (λ n. EndsCycle self.old n self.new) }
     {

@@ -83,8 +83,8 @@ impl ObjectSpace {
     }
 
     /// Ends a cycle: what the roots and the marks reach is marked, and the other objects are forgotten. Answers how many. The
-    /// count becomes that of the heap words that the marker read for it: at most those of the pages that were dirty and of
-    /// those that newly marked objects cover, and what the entries had left.
+    /// count becomes that of the heap words that the marker read for it: at most those of the pages that were dirty, for each
+    /// newly marked object those of the pages that it covers, and what the entries had left.
     pub fn finish(&mut self, marker: &mut Marker, roots: &[u64], reads: &mut Count) -> u64
         requires pages { length marker.old.dirty ≡ length self.old.states }
         requires swept { IsSwept self.old }

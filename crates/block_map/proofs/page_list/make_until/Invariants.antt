@@ -1,4 +1,4 @@
-use Rattle.std.proofs.Common.{◌≡◌, ℕ, ◌+◌, ◌-◌, ◌<◌, ◌≤◌, length, map, vec_capacity, vec_len}
+use Rattle.std.proofs.Common.{ℕ, ◌+◌, ◌-◌, ◌<◌, ◌≤◌, length, map, vec_capacity, vec_len}
 use Rattle.block_map.specs.Shown.{shown, IsSameStates}
 use Rattle.block_map.proofs.page_list.make_until.Given as goal
 

@@ -1,8 +1,8 @@
-use Rattle.std.proofs.Common.{refl, sym, ap, ◌∙◌, ⊎_elim, arith}
+use Rattle.std.proofs.Common.{refl, sym, ap, ◌∙◌, arith}
 use Rattle.words.specs.Layout.{page_of}
 use Rattle.block_map.specs.Shown.{shown}
-use Rattle.block_map.proofs.Finding.{head_few, on_cut, on_head}
-use Rattle.block_map.proofs.Bases.{HasBase, has_base, free_base, body_base, cut_base}
+use Rattle.block_map.proofs.Finding.{head_object, on_cut}
+use Rattle.block_map.proofs.Bases.{HasBase, has_base, cut_base, head_base}
 use Rattle.block_map.proofs.map.BlockMap.object_at.Goals as goal
 use Rattle.block_map.proofs.map.BlockMap.object_at.Goals.{After-page_of-page}
 
@@ -25,25 +25,18 @@ pub object_in_block-requires-clause-base : goal.object_in_block-requires-clause-
 object_in_block-requires-clause-base c =
     cut_base c.args.self.now c.page_of-page.result c.args.base (has (goal.at.object_in_block-requires-clause-base c).After-page_of-page) c.in-Cut.block (c.page.ensures.state ∙ ap shown c.in-Cut.is)
 
-pub large_at-requires-clause-page : goal.large_at-requires-clause-page
-large_at-requires-clause-page c = let few = c.laws.ensures.small in let h = (has (goal.at.large_at-requires-clause-page c).After-page_of-page).inside in omega arith
+pub returns-in-Cut-clause-object : goal.returns-in-Cut-clause-object
+returns-in-Cut-clause-object c =
+    sym (on_cut c.args.self.now c.page_of-page.result c.args.base c.in-Cut.block _ (has (goal.at.returns-in-Cut-clause-object c).After-page_of-page).on (c.page.ensures.state ∙ ap shown c.in-Cut.is) (sym c.object_in_block.ensures.object))
 
-pub large_at-requires-clause-few : goal.large_at-requires-clause-few
-large_at-requires-clause-few c =
-    (head_few c.args.self.now c.page_of-page.result c.in-Head.large.pages c.in-Head.large.kind c.laws.ensures.laid (has (goal.at.large_at-requires-clause-few c).After-page_of-page).inside (c.page.ensures.state ∙ ap shown c.in-Head.is)).0
+pub large-requires : goal.large-requires
+large-requires c =
+    let h = has (goal.at.large-requires c).After-page_of-page in
+    record { inside = h.inside; head = head_base c.args.self.now c.page_of-page.result c.args.base h c.laws.ensures.laid c.page.result.now c.page.ensures.state c.in_default.not-Cut }
 
-pub unreachable-requires : goal.unreachable-requires
-unreachable-requires c =
-    let h = has (goal.at.unreachable-requires c).After-page_of-page in
-    ⊎_elim
-    (λ e. free_base c.args.self.now c.page_of-page.result c.args.base h (c.page.ensures.state ∙ ap shown e))
-    (λ e. body_base c.args.self.now c.page_of-page.result c.args.base h e.0 c.laws.ensures.laid (c.page.ensures.state ∙ ap shown e.1))
-    c.in-Free.is
-
-pub returns-in-Cut : goal.returns-in-Cut
-returns-in-Cut c =
-    sym (on_cut c.args.self.now c.page_of-page.result c.args.base c.in-Cut.block _ (has (goal.at.returns-in-Cut c).After-page_of-page).on (c.page.ensures.state ∙ ap shown c.in-Cut.is) (sym c.object_in_block.ensures))
-
-pub returns-in-Head : goal.returns-in-Head
-returns-in-Head c =
-    sym (on_head c.args.self.now c.page_of-page.result c.args.base c.in-Head.large.pages c.in-Head.large.kind c.large_at.result (has (goal.at.returns-in-Head c).After-page_of-page).on (c.page.ensures.state ∙ ap shown c.in-Head.is) c.large_at.ensures)
+pub returns : goal.returns
+returns c =
+    let h = has (goal.at.returns c).After-page_of-page in
+    let is = head_base c.args.self.now c.page_of-page.result c.args.base h c.laws.ensures.laid c.page.result.now c.page.ensures.state c.in_default.not-Cut in
+    let o = head_object c.args.self.now c.page_of-page.result c.args.base is.0 is.1 c.large.result h.on is.2 c.large.ensures in
+    record { object = o.0; on_page = o.1 }

@@ -1,4 +1,4 @@
-use Rattle.std.proofs.Common.{◌≡◌, ◌<◌, length, ap, ◌∙◌, set, arith}
+use Rattle.std.proofs.Common.{ap, ◌∙◌, set, arith}
 use Rattle.block_map.proofs.Padding.{set_made, same_pages, page_fits}
 use Rattle.block_map.specs.Shown.{shown}
 use Rattle.block_map.proofs.page_list.PageList.put_page.Goals as goal

@@ -1,4 +1,4 @@
-use Rattle.std.proofs.Common.{◌≤◌, length, arith}
+use Rattle.std.proofs.Common.{arith}
 use Rattle.block_map.proofs.Padding.{past_made}
 use Rattle.block_map.proofs.page_list.PageList.used.Goals as goal
 

@@ -16,5 +16,5 @@ loop-base-preserved g c =
     let p = c.args.self.now in let h = c.loop-base.helper in let f = c.object_at-found.result in let inv = c.loop-base.invariant in
     let m = record h { stack = c.pop.new.self } in let b = c.read_words.new.helper in
     serves_trans p c.args.helper.now h b inv
-    (serves_pop p inv.serving.fits.ready.map h m b c.in-Some.base f refl refl refl refl c.in-Some.ensures.items c.object_at-found.ensures inv.serving
+    (serves_pop p inv.serving.fits.ready.map h m b c.in-Some.base f refl refl refl refl c.in-Some.ensures.items c.object_at-found.ensures.object inv.serving
     (subst (λ (n : ℕ). ReadsWords p f 0 n m b) c.from.ensures c.read_words.ensures))

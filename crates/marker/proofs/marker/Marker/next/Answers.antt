@@ -19,7 +19,7 @@ pub returns-clause-settles : goal.returns-clause-settles
 returns-clause-settles c = settles_none (found_in c.args.map.now) c.args.self.now c.in-Some.entry (c.known_entry.ensures.entry c.in-Some.entry c.in-Some.is)
 
 pub returns-clause-live : goal.returns-clause-live
-returns-clause-live c = known_live (found_in c.args.map.now) c.args.self.now c.in-Some.entry c.object_at.result (c.known_entry.ensures.entry c.in-Some.entry c.in-Some.is) (unread (goal.at.returns-clause-live c).After-laws) c.object_at.ensures
+returns-clause-live c = known_live (found_in c.args.map.now) c.args.self.now c.in-Some.entry c.object_at.result (c.known_entry.ensures.entry c.in-Some.entry c.in-Some.is) (unread (goal.at.returns-clause-live c).After-laws) c.object_at.ensures.object
 
 pub returns-clause-placed : goal.returns-clause-placed
-returns-clause-placed c = (c.laws.ensures.lawful.map.placed c.in-Some.entry.base c.object_at.result c.object_at.ensures, c.laws.ensures.small)
+returns-clause-placed c = (c.laws.ensures.lawful.map.placed c.in-Some.entry.base c.object_at.result c.object_at.ensures.object, c.laws.ensures.small)

@@ -1,0 +1,10 @@
+use Rattle.std.proofs.Common.{◌∙◌, sym, subst}
+use Rattle.block_map.specs.Objects.{IsPlaced}
+use Rattle.block_map.specs.FoundIn.{found_in}
+use Rattle.marker.proofs.marker.Marker.mark_elsewhere.Goals as goal
+
+pub mark_found-requires : goal.mark_found-requires
+mark_found-requires c = record { placed = subst (λ n. IsPlaced n c.in-Some.found) (sym c.requires.pages) (c.find.ensures.lawful.map.placed _ _ (sym c.find.ensures.found ∙ c.in-Some.is)) }
+
+pub returns-clause-marks : goal.returns-clause-marks
+returns-clause-marks c = c.mark_found.ensures (found_in c.args.map.now) c.args.word (sym c.find.ensures.found ∙ c.in-Some.is)
