@@ -2,10 +2,10 @@
 //!
 //! # What is proved
 //!
-//! `program` does what it is asked for and says how that ended (`ProgramEnds`): what is written answers the script that was read,
-//! or is of a run of the workload on threads, or the random script (`Does`), each fault of its input and its output is told, and with words of
-//! no request it touches neither. `read_words` answers requests alone that can be done. Which request words make, which file a name opens,
-//! and what is written to a file, is only tested.
+//! `program` does what its words ask for, and `answer` what a request says that was read of them, and both say how that ended
+//! (`ProgramEnds`): what is written answers the script that was read, or is of a run of the workload on threads, or the random script
+//! (`Does`), each fault of its input and its output is told, and with words of no request it touches neither. `read_words` answers requests
+//! alone that can be done. Which request words make, which file a name opens, and what is written to a file, is only tested.
 #![tactic(auto)]
 
 mod arguments;
@@ -15,4 +15,4 @@ mod request;
 mod running;
 
 pub use request::{Request, read_words};
-pub use running::program;
+pub use running::{answer, program};

@@ -1,7 +1,7 @@
 //! What the program is asked to do, as its words say it.
-ghost use Rattle.std.specs.Prelude.{◌≡◌, ◌⊎◌, IfOk, IfErr};
-ghost use Rattle.programs.specs.declared.fault.Fault.TheVariants.{BadCommand, Memory};
-ghost use Rattle.command_line.specs.Requests.{CanBeDone};
+ghost use Rattle.std.specs.Prelude.{◌≡◌, IfOk, IfErr};
+ghost use Rattle.programs.specs.declared.fault.Fault.TheVariants.{BadCommand};
+ghost use Rattle.command_line.specs.Requests.{CanBeDone, MayBeRead};
 
 use crate::arguments::{command_line, helpers_given, number_given, pages_given, refused};
 use clap::{ArgMatches, Error};
@@ -98,8 +98,7 @@ fn matches<'a, S: AsStr>(alloc: Global, words: &'a [S]) -> Result<ArgMatches<'a>
 /// [`Fault::BadCommand`] where they are of no command, or a number is out of its range, and [`Fault::Memory`] where memory is
 /// refused.
 pub fn read_words<'a, S: AsStr>(alloc: Global, words: &'a [S]) -> Result<Request<'a>, Fault>
-    ensures range { IfOk result CanBeDone }
-    ensures fault { IfErr result (λ fault. (fault ≡ BadCommand) ⊎ (fault ≡ Memory)) }
+    ensures { MayBeRead result }
 {
     match matches(alloc, words) {
         Ok(words) => given(&words),

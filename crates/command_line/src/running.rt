@@ -1,13 +1,16 @@
 //! The program, from what it is asked to do to its status.
-ghost use Rattle.std.specs.Prelude.{IfOk};
-ghost use Rattle.command_line.specs.Requests.{CanBeDone};
+ghost use Rattle.std.specs.Prelude.{IfOk, Result};
+ghost use Rattle.programs.specs.declared.fault.Fault.{Fault};
+ghost use Rattle.command_line.specs.declared.request.Request.{Request};
+ghost use Rattle.command_line.specs.Requests.{CanBeDone, MayBeRead};
 ghost use Rattle.command_line.specs.Obeying.{IsAnswered, ProgramEnds};
 
 use crate::obeying::obey;
-use crate::request::Request;
+use crate::request::{Request, read_words};
 use programs::{Fault, end};
 use scripts::{Sink, Source};
 use std::alloc::Global;
+use std::convert::AsStr;
 use std::rt::Files;
 use std::sync::Wait;
 use std::thread::Threads;
@@ -29,8 +32,8 @@ fn perform<R: Files + Threads + Wait + Sync, I: Source, O: Sink>(
     }
 }
 
-/// Does what the words ask for, as [`read_words`](crate::read_words) has it, and answers the status. A file that they name is opened here.
-pub fn program<R: Files + Threads + Wait + Sync, I: Source, O: Sink, E: Sink>(
+/// Does what words ask for, as [`read_words`] reads them, and answers the status. A file that is named is opened here.
+pub fn answer<R: Files + Threads + Wait + Sync, I: Source, O: Sink, E: Sink>(
     alloc: Global,
     rt: &R,
     request: &Result<Request<'_>, Fault>,
@@ -44,4 +47,20 @@ pub fn program<R: Files + Threads + Wait + Sync, I: Source, O: Sink, E: Sink>(
         result (E.written errors.old) (E.written errors.new) (E.faults errors.old) (E.faults errors.new) }
 {
     end(perform(alloc, rt, request, input, output), errors)
+}
+
+/// The program: does what its words ask for, without its own name among them, and answers the status.
+pub fn program<R: Files + Threads + Wait + Sync, S: AsStr, I: Source, O: Sink, E: Sink>(
+    alloc: Global,
+    rt: &R,
+    words: &[S],
+    input: &mut I,
+    output: &mut O,
+    errors: &mut E,
+) -> u8
+    ensures { (request : Result Request Fault) × MayBeRead request × ProgramEnds
+        (IsAnswered I.remaining R.File.remaining O.written I.faults O.faults request input.old input.new output.old output.new)
+        result (E.written errors.old) (E.written errors.new) (E.faults errors.old) (E.faults errors.new) }
+{
+    answer(alloc, rt, &read_words(alloc, words), input, output, errors)
 }

@@ -1,7 +1,7 @@
 //! The program: scripts are run over a heap in one thread, workloads on threads, and random ones are written.
 #![tactic(auto)]
 
-use command_line::{program, read_words};
+use command_line::program;
 use programs::{end, own_words};
 use scripts::Std;
 use std::io;
@@ -18,7 +18,7 @@ fn main(rt: HostRuntime) -> ExitCode {
     let status = program(
         rt.alloc(),
         &rt,
-        &read_words(rt.alloc(), words.as_slice()),
+        words.as_slice(),
         &mut input,
         &mut output,
         &mut errors,

@@ -1,6 +1,6 @@
 //! A call of the program, and what can be seen of it.
 
-use command_line::{program, read_words};
+use command_line::program;
 use std::alloc::{AllocError, Global};
 use std::process::Abort;
 use std::rt::Files;
@@ -40,7 +40,7 @@ impl Called {
         program(
             self.alloc,
             rt,
-            &read_words(self.alloc, words),
+            words,
             input,
             &mut self.output,
             &mut self.errors,
