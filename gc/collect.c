@@ -50,6 +50,7 @@ static bool collect_fully(void *unused)
 {
     (void)unused;
     sigset_t old;
+    if (mpgc_holds_threads_back()) mpgc_leave_open();
     mpgc_tell_start();
     double start = mpgc_now();
     mpgc_block_signals(&old);

@@ -111,7 +111,8 @@ static uint64_t do_piece(enum piece piece, uint64_t words)
 }
 
 // The next step of the cycle, of about so many words where it marks. At rest one begins. From its first piece on that needs a stop no other
-// thread runs. Before one that needs none is told what a handler opened in the middle of another telling.
+// thread runs. Before one that needs none is told what a handler opened in the middle of another telling. Where it isn't known on which stack
+// the first thread is, the collector's thread leaves all to the requests, which know.
 static bool go_on(void *left)
 {
     uint64_t words = *(uint64_t *)left;
@@ -123,6 +124,10 @@ static bool go_on(void *left)
         if (!has_stopped && needs_stop(piece)) {
             mpgc_stop_world();
             has_stopped = true;
+        }
+        if (has_stopped && mpgc_is_beside() && !mpgc_first_is_at_home()) {
+            mpgc_leave_beside();
+            break;
         }
         if (!has_stopped) mpgc_tell_noted();
         piece = mpgc_piece_after(piece, do_piece(piece, words), &words);

@@ -16,6 +16,7 @@
 #include <stddef.h>
 #include <stdint.h>
 #include "../include/mpgc/gc.h"
+#include "races.h"
 
 #define HIDDEN __attribute__((visibility("hidden")))
 #define SHOWN __attribute__((visibility("default")))
@@ -99,12 +100,13 @@ HIDDEN size_t mpgc_free_run(size_t from, size_t *first);
 // And this one: words that count as asked for, and weren't given out yet.
 HIDDEN size_t mpgc_words_in_runs(void);
 
-// And these. Whether a cycle marks, there was ever a second thread, and every other one has ended; the links that stand; this thread, if it
-// is known, and its stack, as the program or the C library says where it ends.
+// And these. Whether a cycle marks, there was ever a second thread, every other one has ended, and the program has ever said where a thread's
+// stack ends; the links that stand; this thread, if it is known, and its stack, as the program or the C library says where it ends.
 HIDDEN bool mpgc_is_marking(void);
 HIDDEN bool mpgc_is_threaded(void);
 HIDDEN bool mpgc_is_last_thread(void);
 HIDDEN bool mpgc_has_lock(void);
+HIDDEN bool mpgc_has_own_stacks(void);
 HIDDEN size_t mpgc_count_links(void);
 HIDDEN void *mpgc_this_thread(void);
 HIDDEN char *mpgc_stack_bottom(void);

@@ -1,7 +1,7 @@
 // What the audited files of libmpgc know of each other. x86-64, Linux, the GNU C library. Trusted, and not proved.
 //
 // Below them stands the proved heap of mpheap_c, above them a C program that knows bdwgc's gc.h, and may do what it likes. The proofs hold
-// for the program as far as these files keep what mpheap.h asks of a caller. They alone could lose an object or break memory: 2,255 lines
+// for the program as far as these files keep what mpheap.h asks of a caller. They alone could lose an object or break memory: 2,308 lines
 // of code in this folder, without blank ones and comments. Why names/ and kernel/ can't is said in front.h. This is all that they owe, in
 // the order in which they are best read, and the head of each says by which lines it pays:
 //
@@ -42,9 +42,10 @@ _Static_assert(MAX_PAGES % 64 == 0, "the heap isn't 64 groups of pages");
 
 #define LIKELY(x) __builtin_expect(!!(x), 1)
 
-// Small objects that one call asked for, and where those stand that are still to be given out.
+// Small objects that one call asked for. They are numbered as they are given out, and no number comes twice: those from `next` on, before
+// `end`, are still to be given out, and each stands at the place that its number's last bits say.
 enum { RUN_GRANULES = 16, RUN_WORDS = 256, RUN_OBJECTS = 64, PINS = 8 };
-struct run { uint64_t *next, *end, bases[RUN_OBJECTS]; };
+struct run { uint64_t next, end, bases[RUN_OBJECTS]; };
 
 // Counted under threads.
 // A thread that is known (threads.c). The lock is held where one is linked or unlinked, and by who reads another's.
@@ -113,6 +114,7 @@ static inline void mpgc_enter(void)
 }
 HIDDEN void mpgc_know_first(void);
 HIDDEN void mpgc_know_this(const struct GC_stack_base *base);
+HIDDEN bool mpgc_first_is_at_home(void);
 HIDDEN void mpgc_scan_threads(void (*scan)(const char *from, const char *to), void (*push)(uint64_t word));
 
 // lock.c. One lock around the core and all that the layer knows; the thread that has it may take it again. Until there is a second

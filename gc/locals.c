@@ -9,6 +9,8 @@
 #include "layer.h"
 #include "kernel/next.h"
 #include <sys/mman.h>
+#include <sys/syscall.h>
+#include <unistd.h>
 
 struct module_data { const char *at; void *whole; };
 
@@ -39,20 +41,20 @@ void mpgc_set_keys(struct thread *thread)
 }
 
 // Not by malloc, which may itself set a key.
-static void **made(void)
+UNSEEN static void **made(void)
 {
-    void *at = mmap(NULL, KEYS * sizeof *keys, PROT_READ | PROT_WRITE, MAP_PRIVATE | MAP_ANONYMOUS, -1, 0);
+    void *at = (void *)syscall(SYS_mmap, NULL, KEYS * sizeof *keys, PROT_READ | PROT_WRITE, MAP_PRIVATE | MAP_ANONYMOUS, -1, 0L);
     if (at == MAP_FAILED) mpgc_stop("no memory for a thread's keys");
     return at;
 }
 
-int mpgc_set_own_key(pthread_key_t key, const void *value)
+UNSEEN int mpgc_set_own_key(pthread_key_t key, const void *value)
 {
     NEXT(int, pthread_setspecific, (pthread_key_t, const void *));
     return next(key, value);
 }
 
-SHOWN int pthread_setspecific(pthread_key_t key, const void *value)
+UNSEEN SHOWN int pthread_setspecific(pthread_key_t key, const void *value)
 {
     if (value && !keys) keys = made();
     if (keys && key < KEYS) keys[key] = (void *)(uintptr_t)value;

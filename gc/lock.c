@@ -51,7 +51,7 @@ static void take_late(void)
         if (seen == 0) {
             if (change(0, me | WAITED_FOR)) return;
         } else if ((seen & WAITED_FOR) || change(seen, seen | WAITED_FOR)) {
-            syscall(SYS_futex, &word, FUTEX_WAIT_PRIVATE, seen | WAITED_FOR, NULL, NULL, 0);
+            syscall(SYS_futex, &word, FUTEX_WAIT_PRIVATE, seen | WAITED_FOR, LONGEST_WAIT, NULL, 0);
         }
     }
 }

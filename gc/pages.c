@@ -11,8 +11,8 @@ static size_t count[4];  // of pages of each kind, but fresh ones
 static void learn_page(size_t page, enum page_kind kind)
 {
     enum page_kind old = mpgc.kind[page];
-    mpgc.kind[page] = (uint8_t)kind;
     if (kind == old) return;
+    mpgc.kind[page] = (uint8_t)kind;
     count[old]--;
     count[kind]++;
     if (kind == POINTER_FREE)
@@ -32,7 +32,7 @@ bool mpgc_learn(uintptr_t base, size_t words, enum page_kind kind)
 
 enum page_kind mpgc_kind_at(uintptr_t address) { return mpgc_is_inside(address) ? mpgc.kind[mpgc_page_of(address)] : FRESH; }
 
-size_t mpgc_pages_of(enum page_kind kind) { return count[kind]; }
+UNSEEN size_t mpgc_pages_of(enum page_kind kind) { return count[kind]; }
 
 size_t mpgc_used_pages(void) { return mpgc.all - mpgc_free_pages(); }
 
@@ -63,12 +63,13 @@ bool mpgc_grow(size_t pages)
 {
     if (pages > mpgc.all || pages > mpgc_figures.limit) return false;
     if (pages <= mpgc.size) return true;
-    mpgc.size = pages;
+    __atomic_store_n(&mpgc.size, pages, __ATOMIC_RELAXED);
     if (GC_on_heap_resize) GC_on_heap_resize(pages * PAGE);
     return true;
 }
 
-size_t mpgc_pages(void) { return mpgc.size; }
+// Also without the lock: there may be more by then, and never fewer.
+size_t mpgc_pages(void) { return __atomic_load_n(&mpgc.size, __ATOMIC_RELAXED); }
 
 bool mpgc_is_uncollectable(uintptr_t base)
 {

@@ -364,12 +364,14 @@ void mpgc_wrote(void)
 // Someone who makes no fault, the kernel, will write these bytes.
 void mpgc_will_write(const void *from, size_t bytes)
 {
-    uintptr_t start = (uintptr_t)from, last = FIRST + mpgc.size * PAGE, end = bytes > last - start ? last : start + bytes;
-    if (start >= last) return;
+    uintptr_t start = (uintptr_t)from, last = FIRST + MAX_PAGES * PAGE, end = bytes > last - start ? last : start + bytes;
+    if (start >= last || end <= FIRST || end == start) return;
     if (start < FIRST) start = FIRST;
     mpgc_lock();
-    for (uintptr_t at = start & ~(PAGE - 1); at < end; at += PAGE)
-        if (mpgc.is_closed[mpgc_page_of(at)]) mpgc_let_write(mpgc_page_of(at));
-    if (mpgc_self && end > start) pin(mpgc_page_of(start), mpgc_page_of(end - 1) + 1);
+    size_t first = mpgc_page_of(start), after = mpgc_page_of(end - 1) + 1;
+    if (after > mpgc.size) after = mpgc.size;
+    for (size_t page = first; page < after; page++)
+        if (mpgc.is_closed[page]) mpgc_let_write(page);
+    if (mpgc_self && first < after) pin(first, after);
     mpgc_unlock();
 }

@@ -57,15 +57,16 @@ static size_t words_of(size_t bytes)
 static size_t granules_of(size_t words) { return (words + GRANULE / WORD - 1) / (GRANULE / WORD); }
 
 // The next object of a run of this thread, or 0. It is passed by one instruction, when it is in a register already: so no signal handler
-// is given the same one, and the run keeps it before (mpgc_push_runs), and the register from then on. The thread may be stopped anywhere.
+// is given the same one, however many a handler takes, and the run keeps it before (mpgc_push_runs), and the register from then on. The
+// thread may be stopped anywhere.
 __attribute__((always_inline)) static inline uint64_t next_of(struct run *run)
 {
-    uint64_t *place = *(uint64_t *volatile *)&run->next, base;
+    uint64_t number = *(volatile uint64_t *)&run->next, base;
     bool is_passed;
     do {
-        if (!LIKELY(place < *(uint64_t *volatile *)&run->end)) return 0;
-        base = *(volatile uint64_t *)place;
-        __asm__ volatile("cmpxchg %3, %1" : "+a"(place), "+m"(run->next), "=@ccz"(is_passed) : "r"(place + 1), "r"(base) : "memory");
+        if (!LIKELY(number < *(volatile uint64_t *)&run->end)) return 0;
+        base = *(volatile uint64_t *)&run->bases[number % RUN_OBJECTS];
+        __asm__ volatile("cmpxchg %3, %1" : "+a"(number), "+m"(run->next), "=@ccz"(is_passed) : "r"(number + 1), "r"(base) : "memory");
     } while (!LIKELY(is_passed));
     return base;
 }
@@ -149,6 +150,7 @@ bool mpgc_find(uintptr_t address, uintptr_t *base, size_t *words)
     return status == MPHEAP_OK;
 }
 
+// Freed last: from then on a signal's handler may be given what lies there, and what is known of it is of the new object.
 void GC_free(void *object)
 {
     if (!object) return;
@@ -156,7 +158,6 @@ void GC_free(void *object)
     mpgc_enter();
     mpgc_lock();
     size_t bytes = GC_size(object);
-    mpgc_free_in(base);
     mpgc_forget_finalizer(base);
     mpgc_forget_described(base);
     mpgc_figures.freed += bytes / WORD;
@@ -164,6 +165,7 @@ void GC_free(void *object)
         mpgc_set_uncollectable(base, false);
         GC_non_gc_bytes -= bytes;
     }
+    mpgc_free_in(base);
     mpgc_unlock();
 }
 

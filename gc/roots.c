@@ -17,7 +17,7 @@
 #ifndef __x86_64__
 #error "libmpgc knows the registers of x86-64 alone"
 #endif
-#define UNCHECKED __attribute__((no_sanitize("address")))
+#define UNCHECKED __attribute__((no_sanitize("address"))) UNSEEN  // it reads words as others wrote them, and red zones
 
 char *GC_stackbottom;  // where the program says that its stack ends
 int GC_no_dls;         // objects that were loaded aren't read
@@ -146,7 +146,7 @@ static int scan_object(struct dl_phdr_info *object, size_t size, void *count)
 
 // Does the work with the registers saved, and with the stack's top where the program called in: what the layer and the core leave on the
 // stack below are no roots. Never inlined, so that the saved registers lie below all that the program has. The program may have asked for
-// a larger stack since: so this is asked once more, before the world is stopped.
+// a larger stack since: so this is asked once more, before the world is stopped, but on a stack of the program's own.
 __attribute__((noinline)) bool mpgc_with_registers(bool (*work)(void *), void *data)
 {
     uint64_t saved[6] = { 0 };
@@ -156,7 +156,8 @@ __attribute__((noinline)) bool mpgc_with_registers(bool (*work)(void *), void *d
         "movq %%r15, 0(%0)\n\tmovq %%r14, 8(%0)\n\tmovq %%r13, 16(%0)\n\t"
         "movq %%r12, 24(%0)\n\tmovq %%rbp, 32(%0)\n\tmovq %%rbx, 40(%0)"
         : : "r"(saved) : "memory");
-    if (self->low && (const char *)saved < self->low) mpgc_find_stack(&self->low, &self->bottom);
+    bool is_below = self->low && (const char *)saved < self->low;
+    if (is_below && mpgc_stack_bottom() == self->bottom) mpgc_find_stack(&self->low, &self->bottom);
     self->top = (const char *)saved;
     bool answer = work(data);
     self->top = outer;
@@ -212,9 +213,19 @@ PUSHES(GC_push_all, (void *from, void *to))
 PUSHES(GC_push_all_eager, (void *from, void *to))
 PUSHES(GC_push_conditional, (void *from, void *to, __attribute__((unused)) int all))
 
-// The program's function may call the one that it found here.
-static void push_no_others(void) { }
-SHOWN void (*GC_push_other_roots)(void) = push_no_others;
+// This reads the threads' stacks, as with bdwgc. A program that puts a function of its own here calls the one that it found, where it has
+// said before where the stacks are; if it doesn't, they are read all the same.
+static bool has_read_threads;
+static void push_threads(void)
+{
+    if (!takes_roots) return;
+    mpgc_call_begins();
+    mpgc_scan_threads(scan, push_inside);
+    mpgc_call_ends();
+    has_read_threads = true;
+}
+
+SHOWN void (*GC_push_other_roots)(void) = push_threads;
 SHOWN void GC_set_push_other_roots(void (*push_them)(void));
 void GC_set_push_other_roots(void (*push_them)(void)) { GC_push_other_roots = push_them; }
 SHOWN void (*GC_get_push_other_roots(void))(void);
@@ -223,8 +234,10 @@ void (*GC_get_push_other_roots(void))(void) { return GC_push_other_roots; }
 static void push_others(void)
 {
     takes_roots = true;
+    has_read_threads = false;
     mpgc_reread_described();
     if (GC_push_other_roots) GC_push_other_roots();
+    if (!has_read_threads) push_threads();
     takes_roots = false;
 }
 
@@ -237,7 +250,6 @@ void mpgc_read_roots(void)
     must(mpheap_set(&mpgc.heap, mpgc.slot, 0, 0));
     must(mpheap_set(&mpgc.heap, mpgc.slot, 1, 0));
     empty_stack();
-    mpgc_scan_threads(scan, push_inside);
     dl_iterate_phdr(scan_object, &objects);
     for (size_t k = 0; k < added.count; k++) scan(added.at[k].from, added.at[k].to);
     scan_uncollectable();

@@ -9,7 +9,6 @@
 //   kinds are as the page's                              mpgc_learn, for each object
 // Counted under the rest.
 #include "layer.h"
-#include <string.h>
 
 enum { INTO = 0 };  // a register
 
@@ -37,16 +36,16 @@ static bool is_known(uint64_t base, size_t words, enum page_kind kind)
     return LIKELY(mpgc.kind[mpgc_page_of(base)] == kind) || mpgc_learn(base, words, kind);
 }
 
-// These are the run's: what it had, if anything, is garbage. A handler that comes between finds it empty, and stops at its own call.
+// These are the run's: what it had, if anything, is garbage. A handler that comes between finds it empty, also where it was never filled,
+// and stops at its own call.
 static void publish(struct run *run, const uint64_t *bases, uint64_t count)
 {
     mpgc_call_begins();
-    run->end = run->bases;
+    run->next = run->end;
     atomic_signal_fence(memory_order_seq_cst);
-    memcpy(run->bases, bases, count * sizeof *bases);
-    run->next = run->bases;
+    for (uint64_t k = 0; k < count; k++) run->bases[(run->end + k) % RUN_OBJECTS] = bases[k];
     atomic_signal_fence(memory_order_seq_cst);
-    run->end = run->bases + count;
+    run->end += count;
     mpgc_call_ends();
 }
 
@@ -74,7 +73,7 @@ size_t mpgc_words_in_runs(void)
     for (const struct thread *one = mpgc.threads; one; one = one->next) {
         const struct run *all = one->runs[0];
         for (size_t k = 0; k < 2 * (RUN_GRANULES + 1); k++)
-            words += (size_t)(all[k].end - all[k].next) * (k % (RUN_GRANULES + 1)) * (GRANULE / WORD);
+            words += (all[k].end - all[k].next) * (k % (RUN_GRANULES + 1)) * (GRANULE / WORD);
     }
     mpgc_unlock();
     return words;
@@ -84,5 +83,5 @@ void mpgc_push_runs(const struct thread *thread, void (*push)(uint64_t word))
 {
     const struct run *all = thread->runs[0];
     for (size_t k = 0; k < 2 * (RUN_GRANULES + 1); k++)
-        for (const uint64_t *place = all[k].next; place < all[k].end; place++) push(*place);
+        for (uint64_t number = all[k].next; number < all[k].end; number++) push(all[k].bases[number % RUN_OBJECTS]);
 }

@@ -63,7 +63,6 @@ static void find_this(struct thread *self, const struct GC_stack_base *base)
     mpgc_find_stack(&self->low, &self->bottom);
     if (base) self->bottom = base->mem_base;
     mpgc_set_keys(self);
-    self->id = pthread_self();
     self->number = mpgc_my_number();
 }
 
@@ -72,6 +71,7 @@ static void on_goodbye(void *record);
 void mpgc_know_first(void)
 {
     find_this(&mpgc.first, NULL);
+    mpgc.first.id = pthread_self();
     if (!GC_stackbottom) GC_stackbottom = (char *)(uintptr_t)mpgc.first.bottom;
     mpgc.first.state = RUNNING;
     link_record(&mpgc.first);
@@ -108,6 +108,7 @@ void mpgc_know_this(const struct GC_stack_base *base)
     struct thread *self = new_record();
     if (!mpgc.is_threaded) mpgc_stop("a thread that nobody told of calls in: call GC_allow_register_threads first");
     find_this(self, base);
+    self->id = pthread_self();
     mpgc_lock();
     link_record(self);
     self->is_detached = true;
@@ -271,6 +272,16 @@ static char *bottom_of(const struct thread *thread)
     return thread == &mpgc.first ? GC_stackbottom : (char *)(uintptr_t)thread->bottom;
 }
 
+// A program of one thread that moves between stacks says so by that variable alone, a moment before it moves or behind it: so where the first
+// thread was stopped it is certain only on the stack that it began with.
+bool mpgc_first_is_at_home(void)
+{
+    const struct thread *first = &mpgc.first;
+    const char *top = first->alt_top ? first->under : first->top;
+    if (first == mpgc_self || first->state == ENDED) return true;
+    return GC_stackbottom == first->bottom && (!top || !first->low || (top >= first->low && top < first->bottom));
+}
+
 void *mpgc_this_thread(void) { return mpgc_self; }
 
 char *mpgc_stack_bottom(void)
@@ -279,10 +290,14 @@ char *mpgc_stack_bottom(void)
     return bottom_of(mpgc_self);
 }
 
+static bool has_own_stacks;
+bool mpgc_has_own_stacks(void) { return has_own_stacks; }
+
 // The thread is this one, or one that is stopped.
 void GC_set_stackbottom(void *thread, const struct GC_stack_base *base)
 {
     struct thread *which = thread ? thread : mpgc_self;
+    has_own_stacks = true;
     if (!which || which == &mpgc.first) GC_stackbottom = base->mem_base;
     if (which) which->bottom = base->mem_base;
     if (which) which->low = NULL;

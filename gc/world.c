@@ -9,7 +9,7 @@
 //                                                     good as one before it (argued: see protection.c)
 //
 // Who stops the world has the lock. Each thread that runs is sent a signal, whose handler says where its stack begins, and waits. The
-// registers that it had lie above, in the signal's frame. A thread is told to go on by a number that the waiting ones wait for; no second
+// registers that it had lie above, in the signal's frame, or where the handler saved them, if it was called late (races.h). A thread is told to go on by a number that the waiting ones wait for; no second
 // signal is needed. A thread that is blocked (GC_do_blocking) has said where its stack begins, and touches nothing before it has the lock.
 //
 // Nothing between stop and start may take a lock of the C library, as malloc and stdio do: a stopped thread may have it. That of the
@@ -43,9 +43,10 @@ static long wait_while(_Atomic uint32_t *word, uint32_t value, const struct time
 
 static void wake(_Atomic uint32_t *word) { syscall(SYS_futex, word, FUTEX_WAKE_PRIVATE, INT32_MAX, NULL, NULL, 0); }
 
-// This thread, of which all registers lie above `top`, waits until the world goes on. Signals are blocked.
-static void wait_here(struct thread *self, const char *top)
+// This thread, of which all registers lie above this frame, waits until the world goes on. Signals are blocked.
+__attribute__((noinline)) static void wait_here(struct thread *self)
 {
+    const char *top = __builtin_frame_address(0);
     uint32_t now = turn;
     if (now % 2 == 0 || self->stop == now || self->state != RUNNING) return;
     const char *outer = self->top;
@@ -72,9 +73,10 @@ static void on_suspend(int number, siginfo_t *info, void *context)
     (void)number;
     (void)info;
     if (!self) return;
+    __builtin_unwind_init();  // saves the registers that a call keeps
     bool is_on_alt = !(alt->ss_flags & SS_DISABLE) && here >= low && here < low + alt->ss_size;
     self->alt_top = is_on_alt ? low + alt->ss_size : NULL;
-    wait_here(self, here);
+    wait_here(self);
     self->alt_top = NULL;
     errno = kept;
 }
@@ -84,7 +86,7 @@ static void install(void)
     struct sigaction ours = { .sa_sigaction = on_suspend, .sa_flags = SA_SIGINFO | SA_RESTART };
     if (is_installed) return;
     sigfillset(&ours.sa_mask);
-    if (__sigaction(SUSPEND, &ours, NULL) != 0) mpgc_stop("the kernel refused what stops threads");
+    if (SET_HANDLER(SUSPEND, &ours, NULL) != 0) mpgc_stop("the kernel refused what stops threads");
     is_installed = true;
 }
 
@@ -140,7 +142,10 @@ static int stop_under_the_loader(struct dl_phdr_info *object, size_t size, void 
 void mpgc_stop_world(void)
 {
     if (stops++ > 0 || !mpgc.is_threaded) return;
-    dl_iterate_phdr(stop_under_the_loader, NULL);
+    if (!HOLDS_LOADER)
+        stop_others();
+    else
+        dl_iterate_phdr(stop_under_the_loader, NULL);
 }
 
 void mpgc_start_world(void)

@@ -68,10 +68,10 @@ SHOWN int sigaction(int number, const struct sigaction *next, struct sigaction *
 {
     if (number == SIGSEGV && swap_handler(next, old)) return 0;
     if (number == SIGPWR && swap_stopper(next, old)) return 0;
-    if (!next) return __sigaction(number, NULL, old);
+    if (!next) return SET_HANDLER(number, NULL, old);
     struct sigaction open = *next;
     (void)mpgc_without_faults(&next->sa_mask, &open.sa_mask);
-    return __sigaction(number, &open, old);
+    return SET_HANDLER(number, &open, old);
 }
 
 SHOWN __sighandler_t signal(int number, __sighandler_t handler)

@@ -3,16 +3,22 @@
 #define MPGC_NEXT_H
 #include "../front.h"
 #include <dlfcn.h>
-#include <string.h>
+#include <stdatomic.h>
+
+// Threads may look for it at once, and find the same.
+UNSEEN __attribute__((noinline, unused)) static uintptr_t mpgc_next(atomic_uintptr_t *kept, const char *name, const char *sentence)
+{
+    uintptr_t found = atomic_load_explicit(kept, memory_order_relaxed);
+    if (found) return found;
+    found = (uintptr_t)dlsym(RTLD_NEXT, name);
+    if (!found) mpgc_stop(sentence);
+    atomic_store_explicit(kept, found, memory_order_relaxed);
+    return found;
+}
 
 #define NEXT(answer, name, words) \
-    static answer(*next) words; \
-    if (!next) { \
-        void *found_ = dlsym(RTLD_NEXT, #name); \
-        if (!found_) mpgc_stop("the C library has no " #name); \
-        memcpy(&next, &found_, sizeof found_); \
-    } \
-    (void)0
+    static atomic_uintptr_t kept_; \
+    answer(*const next) words = (answer(*) words)mpgc_next(&kept_, #name, "the C library has no " #name)
 
 // What the call answers, when the kernel has written what it writes.
 #define SAYS(call) do { \

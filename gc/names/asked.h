@@ -18,11 +18,12 @@ struct figures {
 HIDDEN extern struct figures mpgc_figures;
 
 // pacing.c, collections.c, collector.c and beside.c. Whether collections are off; a request does what is due; whether the collector has a
-// thread of its own, and this is woken.
+// thread of its own, for which this program isn't made, and this is woken.
 HIDDEN void mpgc_set_budget(void);
 HIDDEN bool mpgc_is_off(void);
 HIDDEN bool mpgc_look(bool is_asked);
 HIDDEN bool mpgc_is_beside(void);
+HIDDEN void mpgc_leave_beside(void);
 HIDDEN bool mpgc_wake_collector(bool may_start);
 HIDDEN void mpgc_lose_collector(void);
 
@@ -42,6 +43,7 @@ HIDDEN void mpgc_read_environment(void);
 
 // told.c
 HIDDEN void mpgc_tell_start(void);
+HIDDEN bool mpgc_holds_threads_back(void);
 HIDDEN void mpgc_tell_end(void);
 HIDDEN void *mpgc_out_of_memory(size_t bytes);
 

@@ -4,7 +4,10 @@
 
 static bool is_on;
 
-bool mpgc_is_beside(void) { return is_on; }
+bool mpgc_is_beside(void) { return is_on && !mpgc_holds_threads_back(); }
+
+// From now on requests make the steps.
+void mpgc_leave_beside(void) { is_on = false; }
 
 void GC_enable_collector_thread(void)
 {

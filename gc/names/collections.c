@@ -22,7 +22,7 @@ static void begin_cycle(void)
 static bool collect_unless(GC_stop_func stop)
 {
     if (GC_dont_gc || (stop && stop())) return false;
-    if (!stop) {
+    if (!stop || mpgc_holds_threads_back()) {
         mpgc_collect();
         return true;
     }
@@ -57,10 +57,23 @@ bool mpgc_tidy(void)
     return has_opened || has_swept;
 }
 
+enum { WORDS = 1024 };  // of a step
+
+// A request makes a step, and a large one more of them: another for as many words asked for since the last. But no more than it can wait for.
+static void make_steps(void)
+{
+    enum { MOST = 64 };
+    static uint64_t seen;
+    uint64_t since = mpgc_figures.since, more = since > seen ? (since - seen) / WORDS : 0;
+    if (more > MOST) more = MOST;
+    seen = since;
+    mpgc_step(WORDS);
+    for (; more > 0 && mpgc_is_in_cycle(); more--) mpgc_step(WORDS);
+}
+
 // What is due is done, by a request; or as the program asked for it.
 bool mpgc_look(bool is_asked)
 {
-    enum { WORDS = 1024 };
     switch (mpgc_due(is_asked)) {
     case NOTHING: break;
     case TIDYING: mpgc_tidied(mpgc_tidy()); break;
@@ -68,7 +81,12 @@ bool mpgc_look(bool is_asked)
         if (mpgc_wake_collector(true)) break;
         mpgc_step(WORDS);
         break;
-    case STEP: mpgc_step(WORDS); break;
+    case STEP:
+        if (is_asked)
+            mpgc_step(WORDS);
+        else
+            make_steps();
+        break;
     case COLLECTION: (void)collect_unless(mpgc_stop_func()); break;
     }
     return mpgc_is_in_cycle();

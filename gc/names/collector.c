@@ -11,6 +11,7 @@
 #include <pthread.h>
 #include <stdatomic.h>
 #include <sys/syscall.h>
+#include <time.h>
 #include <unistd.h>
 
 int GC_pthread_create(pthread_t *thread, const pthread_attr_t *attributes, void *(*start)(void *), void *data);
@@ -31,7 +32,7 @@ static void sleep_until_woken(uint32_t seen)
 static bool look(void)
 {
     enum { WORDS = 1024 };
-    is_there = !mpgc_is_last_thread();
+    is_there = mpgc_is_beside() && !mpgc_is_last_thread();
     switch (is_there ? mpgc_due_to_collector() : NOTHING) {
     case TIDYING: mpgc_tidied(mpgc_tidy()); return true;
     case STEP: mpgc_step(WORDS); return true;
@@ -39,9 +40,41 @@ static bool look(void)
     }
 }
 
+// Behind a call under the lock a program may have a moment's work to do, as Guile has, which says only then where a thread's stack is that
+// it has moved: and who waits for the lock would stop it right there. So that thread is let work for a moment, if it does.
+enum { MOMENT = 20, PATIENCE = 200000 };  // microseconds, of that thread's work and of time
+static clockid_t caller;
+static double called_at, had_worked;
+
+static double worked(void)
+{
+    struct timespec time;
+    if (clock_gettime(caller, &time) != 0) return had_worked + MOMENT;  // it has ended
+    return (double)time.tv_sec * 1e6 + (double)time.tv_nsec / 1e3;
+}
+
+void mpgc_was_called_under_lock(void)
+{
+    if (!is_there || pthread_getcpuclockid(pthread_self(), &caller) != 0) return;
+    called_at = mpgc_now();
+    had_worked = worked();
+}
+
+static void let_a_moment_pass(void)
+{
+    static const struct timespec moment = { 0, 5 * MOMENT * 1000 };
+    while (called_at != 0 && mpgc_now() - called_at < PATIENCE && worked() - had_worked < MOMENT) {
+        GC_alloc_unlock();
+        syscall(SYS_nanosleep, &moment, NULL);
+        GC_alloc_lock();
+    }
+    called_at = 0;
+}
+
 static bool look_alone(void)
 {
     GC_alloc_lock();
+    let_a_moment_pass();
     bool answer = look();
     GC_alloc_unlock();
     return answer;

@@ -38,7 +38,8 @@ void mpgc_count_standing(double took)
     if (took > mpgc_figures.longest_standing) mpgc_figures.longest_standing = took;
 }
 
-GC_word GC_get_gc_no(void) { return GC_gc_no; }
+// What one of these reads without the lock may be another one's from before or behind a change, as with bdwgc.
+UNSEEN GC_word GC_get_gc_no(void) { return GC_gc_no; }
 size_t GC_get_unmapped_bytes(void) { return mpgc_pages_of(GIVEN_BACK) * PAGE; }
 size_t GC_get_heap_size(void) { return mpgc_pages() * PAGE - GC_get_unmapped_bytes(); }
 // Pages on which an object lies, or one that is still to be swept.
@@ -48,31 +49,44 @@ size_t GC_get_free_bytes(void)
     size_t in_use = GC_get_memory_use();
     return in_use < GC_get_heap_size() ? GC_get_heap_size() - in_use : 0;
 }
-size_t GC_get_bytes_since_gc(void)
+UNSEEN size_t GC_get_bytes_since_gc(void)
 {
     size_t left = mpgc_words_in_runs();
     return mpgc_figures.since > left ? (mpgc_figures.since - left) * WORD : 0;
 }
-size_t GC_get_expl_freed_bytes_since_gc(void) { return mpgc_figures.freed * WORD; }
-size_t GC_get_total_bytes(void) { return (mpgc_figures.total + mpgc_figures.since - mpgc_words_in_runs()) * WORD; }
+UNSEEN size_t GC_get_expl_freed_bytes_since_gc(void) { return mpgc_figures.freed * WORD; }
+UNSEEN size_t GC_get_total_bytes(void) { return (mpgc_figures.total + mpgc_figures.since - mpgc_words_in_runs()) * WORD; }
 size_t GC_get_obtained_from_os_bytes(void) { return mpgc_pages() * PAGE; }
-GC_word GC_get_non_gc_bytes(void) { return GC_non_gc_bytes; }
+UNSEEN GC_word GC_get_non_gc_bytes(void) { return GC_non_gc_bytes; }
 void GC_set_non_gc_bytes(GC_word bytes) { GC_non_gc_bytes = bytes; }
+
+// These two are of one moment.
 void GC_get_heap_usage_safe(GC_word *heap, GC_word *free_bytes, GC_word *unmapped, GC_word *since, GC_word *total)
 {
+    GC_init();
+    GC_alloc_lock();
     if (heap) *heap = GC_get_heap_size();
     if (free_bytes) *free_bytes = GC_get_free_bytes();
     if (unmapped) *unmapped = GC_get_unmapped_bytes();
     if (since) *since = GC_get_bytes_since_gc();
     if (total) *total = GC_get_total_bytes();
+    GC_alloc_unlock();
 }
 size_t GC_get_prof_stats(struct GC_prof_stats_s *stats, size_t bytes)
+{
+    GC_init();
+    GC_alloc_lock();
+    size_t known = GC_get_prof_stats_unsafe(stats, bytes);
+    GC_alloc_unlock();
+    return known;
+}
+size_t GC_get_prof_stats_unsafe(struct GC_prof_stats_s *stats, size_t bytes)
 {
     struct GC_prof_stats_s all = {
         .heapsize_full = mpgc_pages() * PAGE, .free_bytes_full = GC_get_free_bytes() + GC_get_unmapped_bytes(),
         .unmapped_bytes = GC_get_unmapped_bytes(),
         .bytes_allocd_since_gc = GC_get_bytes_since_gc(), .allocd_bytes_before_gc = GC_get_total_bytes() - GC_get_bytes_since_gc(),
-        .non_gc_bytes = GC_non_gc_bytes, .gc_no = GC_gc_no, .expl_freed_bytes_since_gc = GC_get_expl_freed_bytes_since_gc(),
+        .non_gc_bytes = GC_get_non_gc_bytes(), .gc_no = GC_get_gc_no(), .expl_freed_bytes_since_gc = GC_get_expl_freed_bytes_since_gc(),
         .obtained_from_os_bytes = GC_get_obtained_from_os_bytes(),
     };
     size_t known = bytes < sizeof all ? bytes : sizeof all;
@@ -80,6 +94,5 @@ size_t GC_get_prof_stats(struct GC_prof_stats_s *stats, size_t bytes)
     memset((char *)stats + known, 0xff, bytes - known);
     return known;
 }
-size_t GC_get_prof_stats_unsafe(struct GC_prof_stats_s *stats, size_t bytes) { return GC_get_prof_stats(stats, bytes); }
 void GC_start_performance_measurement(void) { mpgc_figures.full_time = 0; }
 unsigned long GC_get_full_gc_total_time(void) { return (unsigned long)(mpgc_figures.full_time / 1000); }

@@ -5,6 +5,7 @@
 // marked too, so that the cycle's end keeps them and all that they lead to. Behind that end they are taken out of the table, and an object
 // of the heap names them until their function is called, as a program would do it: so no root is owed for them here, nor for the data.
 #include "awaited.h"
+#include <stdatomic.h>
 #include <stdio.h>
 #include <stdlib.h>
 
@@ -13,7 +14,7 @@ enum order { NORMAL, IGNORE_SELF, NO_ORDER, UNREACHABLE };
 // Both are objects of the heap, and the second one stays.
 struct entry {
     struct entry *next;
-    GC_hidden_pointer hidden;  // the base
+    GC_hidden_pointer hidden;  // the object, as the program named it: a tag may be in the lowest bits, as in those of ECL's lists
     void *object;              // the same, once it is ready
     void *data;
     GC_finalization_proc function;
@@ -21,14 +22,16 @@ struct entry {
 };
 static struct all { struct entry **chains, *ready, **ready_end; } *all;
 
-static size_t count, room, ready_count;
+static size_t count, room;
+static atomic_size_t ready_count;  // which is looked at without the lock
 
 // What was found while no other thread runs: so there is room for it before. The entries lie all over the heap, and are looked at once.
 static struct asked { struct entry *entry; uintptr_t base; enum order order; bool is_ready; } *asked;
 static size_t asked_room, asked_count;
 enum { AHEAD = 12 };  // so many entries are fetched ahead
 
-static uintptr_t base_of(const struct entry *one) { return ~one->hidden; }
+static uintptr_t object_of(const struct entry *one) { return ~one->hidden; }
+static uintptr_t base_of(const struct entry *one) { return object_of(one) & ~(GRANULE - 1); }
 
 // ---- The table ----
 
@@ -103,7 +106,7 @@ static void set(void *object, GC_finalization_proc function, void *data, GC_fina
     GC_init();
     if (GC_find_leak) return;  // what goes is told, and nothing called
     GC_alloc_lock();
-    bool is_object = mpgc_find((uintptr_t)object, &base, &words) && base == (uintptr_t)object;
+    bool is_object = mpgc_find((uintptr_t)object, &base, &words) && (uintptr_t)object - base < GRANULE;
     struct entry *made = is_object && function ? make(object, function, data, order) : NULL;
     struct entry **at = place_of(base), *was = is_object && *at && (made || !function) ? take(at) : NULL;
     if (made) put(made);
@@ -160,7 +163,7 @@ void mpgc_find_ready(void)
 static void add_ready(struct entry *one)
 {
     GC_await_finalize_proc tell = GC_get_await_finalize_proc();
-    one->object = (void *)base_of(one);
+    one->object = (void *)object_of(one);
     one->next = NULL;
     *all->ready_end = one;
     all->ready_end = &one->next;
@@ -229,9 +232,10 @@ void mpgc_tell_ready(void)
         calling_at = &here;
         (void)GC_invoke_finalizers();
         calling_at = NULL;
-    } else if (GC_finalizer_notifier && told_at != GC_gc_no) {
-        told_at = GC_gc_no;
-        GC_finalizer_notifier();
+    } else if (told_at != GC_get_gc_no()) {
+        GC_finalizer_notifier_proc tell = GC_get_finalizer_notifier();
+        if (tell) told_at = GC_get_gc_no();
+        if (tell) tell();
     }
 }
 
@@ -248,7 +252,7 @@ void GC_finalize_all(void)
 
 void GC_dump_finalization(void)
 {
-    printf("%zu finalizers, %zu of them ready; %zu disappearing links\n", count + ready_count, ready_count, mpgc_count_links());
+    printf("%zu finalizers, %zu of them ready; %zu disappearing links\n", count + ready_count, (size_t)ready_count, mpgc_count_links());
 }
 
 #define FINALIZER(name, order) \

@@ -1,6 +1,7 @@
 // Leaks, for a program that frees by itself (GC_find_leak): what isn't marked at a collection's end, and wasn't freed, goes with it, and is
 // said behind it. Of what was asked for by a debugging request it is said where.
 #include "awaited.h"
+#include <stdatomic.h>
 #include <stdio.h>
 #include <stdlib.h>
 
@@ -11,7 +12,7 @@ static struct place **places;
 
 struct leak { void *base; size_t bytes; bool is_atomic; struct place *place; };
 static struct leak leaks[MOST];
-static unsigned count;
+static atomic_uint count;    // which is looked at without the lock
 static struct place *left;  // of leaks that aren't told of
 
 // ---- Where objects were asked for ----

@@ -1,5 +1,5 @@
 // What a program asks of threads that needs no more than gc/threads.c answers.
-#include "../front.h"
+#include "paced.h"
 #include <dlfcn.h>
 #include <pthread.h>
 
@@ -31,6 +31,7 @@ void *GC_call_with_alloc_lock(GC_fn_type function, void *data)
 {
     GC_alloc_lock();
     void *answer = function(data);
+    mpgc_was_called_under_lock();
     GC_alloc_unlock();
     return answer;
 }
@@ -58,6 +59,7 @@ void GC_set_on_thread_event(void *tell) { tell_of_thread = tell; }
 SHOWN void *GC_get_on_thread_event(void);
 void *GC_get_on_thread_event(void) { return tell_of_thread; }
 
+// One thread marks at a time, so none besides it: whatever a program asks for, before the start or later.
 int GC_get_parallel(void) { return 0; }
 void GC_set_markers_count(unsigned count) { (void)count; }
 void GC_start_mark_threads(void) { }

@@ -19,6 +19,9 @@ HIDDEN bool mpgc_is_in_cycle(void);
 HIDDEN bool mpgc_roots_are_read(void);
 HIDDEN void mpgc_skip_sweeping(void);
 
+// collector.c
+HIDDEN void mpgc_was_called_under_lock(void);
+
 // told.c
 HIDDEN GC_stop_func mpgc_stop_func(void);
 

@@ -23,6 +23,8 @@ static bool is_ripe;                  // so much was asked for
 static bool is_settled;               // all pages are swept and open
 static bool is_incremental;
 
+static bool makes_steps(void) { return is_incremental && !mpgc_holds_threads_back(); }
+
 static uint64_t divisor(void) { return GC_free_space_divisor ? GC_free_space_divisor : 1; }
 
 // So many more are allowed where these were too few.
@@ -42,7 +44,7 @@ static uint64_t pointer_free_in(size_t used)
 static void set_budget_for(size_t used)
 {
     uint64_t room = (mpgc_figures.limit > used ? mpgc_figures.limit - used : 0) * (PAGE / WORD);
-    uint64_t most = is_incremental ? room / 2 : room * 3 / 4;  // a cycle needs room while it marks
+    uint64_t most = makes_steps() ? room / 2 : room * 3 / 4;  // a cycle needs room while it marks
     budget = (2 * mpgc_figures.marked + pointer_free_in(used) / 4 + mpgc_figures.roots / WORD + OWN) / divisor();
     if (budget > most) budget = most;
     if (budget < LEAST) budget = LEAST;
@@ -97,13 +99,13 @@ static bool has_filled_its_pages(void)
 static bool is_due(void)
 {
     if (is_incremental && mpgc_is_in_cycle()) return true;
-    return asked_for() >= budget && (is_incremental || has_filled_its_pages());
+    return asked_for() >= budget && (makes_steps() || has_filled_its_pages());
 }
 
 static enum due step_or_collection(void)
 {
     GC_stop_func stop = mpgc_stop_func();
-    if (!is_incremental) return COLLECTION;
+    if (!makes_steps()) return COLLECTION;
     return stop && stop() ? NOTHING : STEP;
 }
 
@@ -171,7 +173,7 @@ int GC_is_incremental_mode(void) { return is_incremental; }
 void GC_start_incremental_collection(void)
 {
     GC_init();
-    if (is_incremental && !GC_dont_gc) mpgc_start_cycle();
+    if (makes_steps() && !GC_dont_gc) mpgc_start_cycle();
     mpgc_figures.next = 0;
 }
 

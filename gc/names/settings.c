@@ -1,5 +1,5 @@
 // What a program sets, and is given back: variables of gc.h, and their calls. What the stack is, and calls of functions.
-#include "../front.h"
+#include "locked.h"
 
 // The variables that bdwgc lets a program read, and write before the first request; roots.c, requests.c, told.c and figures.c have others.
 int GC_dont_gc;
@@ -64,10 +64,8 @@ void GC_set_finalize_on_demand(int on) { GC_finalize_on_demand = on; }
 int GC_get_finalize_on_demand(void) { return GC_finalize_on_demand; }
 void GC_set_java_finalization(int on) { GC_java_finalization = on; }
 int GC_get_java_finalization(void) { return GC_java_finalization; }
-void GC_set_finalizer_notifier(GC_finalizer_notifier_proc tell) { GC_finalizer_notifier = tell; }
-GC_finalizer_notifier_proc GC_get_finalizer_notifier(void) { return GC_finalizer_notifier; }
-void GC_set_await_finalize_proc(GC_await_finalize_proc tell) { tell_finalize = tell; }
-GC_await_finalize_proc GC_get_await_finalize_proc(void) { return tell_finalize; }
+LOCKED_SETTING(GC_finalizer_notifier_proc, GC_finalizer_notifier, GC_set_finalizer_notifier, GC_get_finalizer_notifier)
+LOCKED_SETTING(GC_await_finalize_proc, tell_finalize, GC_set_await_finalize_proc, GC_get_await_finalize_proc)
 void GC_set_dont_expand(int on) { GC_dont_expand = on; }
 int GC_get_dont_expand(void) { return GC_dont_expand; }
 void GC_set_dont_precollect(int on) { GC_dont_precollect = on; }

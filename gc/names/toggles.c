@@ -1,6 +1,7 @@
 // Toggle references: before a collection a function of the program says of each of these objects whether it is to stay, may go, or isn't
 // to be asked for any more. Those that stay are marked at the cycle's end.
 #include "awaited.h"
+#include "locked.h"
 #include <stdlib.h>
 
 static struct toggled { GC_hidden_pointer hidden; bool is_strong; } *all;
@@ -56,5 +57,4 @@ int GC_toggleref_add(void *object, int is_strong)
     return answer;
 }
 
-void GC_set_toggleref_func(GC_toggleref_func function) { ask = function; }
-GC_toggleref_func GC_get_toggleref_func(void) { return ask; }
+LOCKED_SETTING(GC_toggleref_func, ask, GC_set_toggleref_func, GC_get_toggleref_func)

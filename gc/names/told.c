@@ -1,4 +1,5 @@
 // What the program is told, and by which functions of its own.
+#include "locked.h"
 #include "paced.h"
 #include <stdio.h>
 #include <string.h>
@@ -52,6 +53,11 @@ void mpgc_tell_start(void)
     if (tell_start) tell_start();
 }
 
+// A program whose threads move between stacks holds them back from its function at a collection's start until its function of other roots has
+// said where they are. It may wait for a thread there, which mustn't wait for the collector meanwhile, as at a closed page: so such a program
+// has full collections alone. Whether it is one is known from the first on.
+bool mpgc_holds_threads_back(void) { return tell_start && (GC_gc_no == 0 || mpgc_has_own_stacks()); }
+
 void mpgc_tell_end(void)
 {
     static const GC_EventType last[] = { GC_EVENT_MARK_END, GC_EVENT_RECLAIM_START, GC_EVENT_RECLAIM_END, GC_EVENT_END };
@@ -62,31 +68,36 @@ void mpgc_tell_end(void)
 
 void *mpgc_out_of_memory(size_t bytes)
 {
-    warn("GC Warning: Out of Memory! Heap size: %lu MiB. Returning NULL!\n", GC_get_heap_size() >> 20);
-    return GC_oom_fn ? GC_oom_fn(bytes) : NULL;
+    GC_oom_func answer = GC_get_oom_fn();
+    GC_get_warn_proc()("GC Warning: Out of Memory! Heap size: %lu MiB. Returning NULL!\n", GC_get_heap_size() >> 20);
+    return answer ? answer(bytes) : NULL;
 }
 
 // The function that may break off a collection, if there is one.
-GC_stop_func mpgc_stop_func(void) { return stop_by_default == never ? NULL : stop_by_default; }
+GC_stop_func mpgc_stop_func(void)
+{
+    GC_stop_func stop = GC_get_stop_func();
+    return stop == never ? NULL : stop;
+}
 
-void GC_set_oom_fn(GC_oom_func answer) { GC_oom_fn = answer; }
-GC_oom_func GC_get_oom_fn(void) { return GC_oom_fn; }
-void GC_set_warn_proc(GC_warn_proc proc) { warn = proc; }
-GC_warn_proc GC_get_warn_proc(void) { return warn; }
+LOCKED_SETTING(GC_oom_func, GC_oom_fn, GC_set_oom_fn, GC_get_oom_fn)
+LOCKED_SETTING(GC_warn_proc, warn, GC_set_warn_proc, GC_get_warn_proc)
+LOCKED_SETTING(GC_on_heap_resize_proc, GC_on_heap_resize, GC_set_on_heap_resize, GC_get_on_heap_resize)
+LOCKED_SETTING(GC_on_collection_event_proc, tell_event, GC_set_on_collection_event, GC_get_on_collection_event)
+LOCKED_SETTING(GC_start_callback_proc, tell_start, GC_set_start_callback, GC_get_start_callback)
+LOCKED_SETTING(GC_stop_func, stop_by_default, GC_set_stop_func, GC_get_stop_func)
 void GC_ignore_warn_proc(char *format, GC_word number)
 {
     (void)format;
     (void)number;
 }
-void GC_set_abort_func(GC_abort_func tell) { GC_on_abort = tell; }
-GC_abort_func GC_get_abort_func(void) { return GC_on_abort; }
+// Who stops with a sentence may find the lock another's that waits for it: so this one is read without.
+void GC_set_abort_func(GC_abort_func tell)
+{
+    GC_alloc_lock();
+    GC_on_abort = tell;
+    GC_alloc_unlock();
+}
+UNSEEN GC_abort_func GC_get_abort_func(void) { return GC_on_abort; }
 void GC_abort_on_oom(void) { mpgc_stop("insufficient memory for the allocation"); }
-void GC_set_on_heap_resize(GC_on_heap_resize_proc tell) { GC_on_heap_resize = tell; }
-GC_on_heap_resize_proc GC_get_on_heap_resize(void) { return GC_on_heap_resize; }
-void GC_set_on_collection_event(GC_on_collection_event_proc tell) { tell_event = tell; }
-GC_on_collection_event_proc GC_get_on_collection_event(void) { return tell_event; }
-void GC_set_start_callback(GC_start_callback_proc tell) { tell_start = tell; }
-GC_start_callback_proc GC_get_start_callback(void) { return tell_start; }
 void GC_set_log_fd(int file) { (void)file; }
-void GC_set_stop_func(GC_stop_func stop) { stop_by_default = stop; }
-GC_stop_func GC_get_stop_func(void) { return stop_by_default; }
