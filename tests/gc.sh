@@ -50,9 +50,10 @@ shadow() {
 
 # planted EDIT RUNS: one file of the layer with a fault, under the test that has to notice it in one of so many runs, since what threads
 # do hangs on chance: prints `noticed`, or the status. `test:` names the test, and settings; `file:` the file; `old:` a text that stands
-# once there, and `new:` what stands in its place; `over: checking` that the layer stands over the core that checks what is owed.
+# once there, and `new:` what stands in its place; `over: checking` that the layer stands over the core that checks what is owed, and
+# `over: races` that it is built to look for races.
 planted() {
-    local name file over test status runs=$2 words=() setting=()
+    local name file over test status runs=$2 words=() setting=() parts=$room flags=()
     name=$(basename "$1" .edit)
     file=$(sed -n 's/^file: //p' "$1")
     over=$(sed -n 's/^over: //p' "$1")
@@ -63,7 +64,12 @@ planted() {
         threads) words=(3 2) ;;
         world) words=("$room/loaded_local.so") ;;
         collector) words=(2) ;;
+        together) words=(4 2) ;;
     esac
+    if [ "$over" = races ]; then
+        parts=$room/races
+        flags=("${races[@]}")
+    fi
     if ! awk -v "old=$(sed -n 's/^old: //p' "$1" | sed 's/\\/\\\\/g')" -v "new=$(sed -n 's/^new: //p' "$1" | sed 's/\\/\\\\/g')" '
         { at = index($0, old) }
         at { count++; $0 = substr($0, 1, at - 1) new substr($0, at + length(old)) }
@@ -72,10 +78,10 @@ planted() {
         echo "its text doesn't stand once"
         return
     fi
-    cc -std=c11 -O1 -w -fvisibility=hidden "-I$top/include/mpgc" "-I$include" "-I$top/gc" "-I$top/gc/names" "$room/$name.c" \
-        "$top/tests/gc/$test.c" "$room"/syscalls*.o "$room/$over/libmpgc.a" -pthread -o "$room/planted_$name" 2>&1 || return
+    cc -std=c11 -O1 -w "${flags[@]}" -fvisibility=hidden "-I$top/include/mpgc" "-I$include" "-I$top/gc" "-I$top/gc/names" \
+        "$room/$name.c" "$top/tests/gc/$test.c" "$parts"/syscalls*.o "$room/$over/libmpgc.a" -pthread -o "$room/planted_$name" 2>&1 || return
     while
-        { timeout 1500 env "${setting[@]:1}" "$room/planted_$name" "${words[@]}" >"$room/said_$name" 2>&1; } 2>>"$room/said_$name"
+        { timeout 1500 env "TSAN_OPTIONS=die_after_fork=0 halt_on_error=1" "${setting[@]:1}" "$room/planted_$name" "${words[@]}" >"$room/said_$name" 2>&1; } 2>>"$room/said_$name"
         status=$?
         runs=$((runs - 1))
         [ $status = 0 ] && [ $runs -gt 0 ]
@@ -89,7 +95,11 @@ planted() {
 # All faults, four at a time; and none, under each of their tests, which then has nothing to notice; and those of the names, by which no
 # object may be lost (harmless).
 faults_are_noticed() {
-    local edit name test wanted runs edits=("$top"/tests/gc/planted/*.edit "$top"/tests/gc/harmless/*.edit)
+    local edit name test wanted runs edits=("$top"/tests/gc/harmless/*.edit)
+    for edit in "$top"/tests/gc/planted/*.edit; do
+        if grep -q '^over: races$' "$edit" && [ ! -e "$room/races/libmpgc.a" ]; then continue; fi
+        edits+=("$edit")
+    done
     while read -r test; do
         edit=$room/none_under_${test//[ =]/_}.edit
         printf '%s\n' "test: $test" "file: spare.c" "old: enum { SPARE = 2 };" "new: enum { SPARE = 2 };" >"$edit"
@@ -193,8 +203,8 @@ is "lines of names" "$(code "$top"/gc/names/*)" "$(named "$top/docs/PROGRAMS.md"
 is "lines of wrapped functions" "$(code "$top"/gc/kernel/*)" "$(named "$top/docs/PROGRAMS.md" '\*\*wrapped functions of the C library\*\*,')"
 
 # Each function, each place of roots, and what stands round the barrier.
-for test in functions settings macros limits links leaks unmapped finalizers kinds roots barrier kernel signals process shadow threads world registering \
-    collector; do
+for test in functions settings macros limits links leaks unmapped finalizers kinds roots barrier kernel signals moments process shadow threads world \
+    registering together collector stacks; do
     "${c[@]}" "$top/tests/gc/$test.c" "-L$room" -lmpgc "-Wl,-rpath,$room" -pthread -o "$room/$test" 2>"$room/said"
     is "$test is built" "" "$(cat "$room/said")"
 done
@@ -216,11 +226,16 @@ counted "roots, in small steps" env INCREMENTAL=1 "$room/roots"
 counted barrier "$room/barrier"
 counted "kernel" "$room/kernel"
 counted "signals" "$room/signals"
+counted "moments" "$room/moments"
 "${c[@]}" -shared -fPIC "$top/tests/gc/loaded.c" -o "$room/loaded.so" 2>"$room/said"
 is "an object to be loaded is built" "" "$(cat "$room/said")"
 counted "process" "$room/process" "$room/loaded.so"
 "${c[@]}" -shared -fPIC "$top/tests/gc/loaded_local.c" -o "$room/loaded_local.so" 2>"$room/said"
 is "an object with thread-local data is built" "" "$(cat "$room/said")"
+for setting in FULL INCREMENTAL GC_COLLECTOR_THREAD; do
+    counted "stacks, $setting" env $setting=1 "$room/stacks"
+    counted "stacks of one thread, $setting" env $setting=1 ALONE=1 "$room/stacks"
+done
 counted "world" "$room/world" "$room/loaded_local.so"
 counted "world, in small steps" env INCREMENTAL=1 "$room/world" "$room/loaded_local.so"
 "${c[@]}" -no-pie "$top/tests/gc/process.c" "-L$room" -lmpgc "-Wl,-rpath,$room" -o "$room/fixed" 2>"$room/said"
@@ -247,7 +262,7 @@ for test in barrier kernel signals; do
     fi
 done
 if [ -e /usr/include/gc/gc_mark.h ]; then
-    for test in functions settings macros links leaks unmapped finalizers kinds registering; do
+    for test in functions settings macros links leaks unmapped finalizers kinds registering stacks; do
         cc -std=c11 -O1 -w -DOTHER "$top/tests/gc/$test.c" -lgc -o "$room/${test}_bdw"
         counted "$test, over bdwgc" "$room/${test}_bdw"
     done
@@ -278,10 +293,41 @@ for setting in FULL INCREMENTAL GC_COLLECTOR_THREAD; do
     shadow "threads, $setting" env $setting=1 "$room/threads" 6 "${GC_SECONDS:-5}"
 done
 
+# And with links, finalizers, kinds, roots and figures of their own.
+for setting in FULL INCREMENTAL GC_COLLECTOR_THREAD; do
+    counted "together, $setting" env $setting=1 "$room/together" 4 3
+done
+
 # A million random operations, with a shadow of all.
 shadow shadow env FULL=1 "$room/shadow" 1 1000000
 shadow "shadow, in small steps" env INCREMENTAL=1 "$room/shadow" 2 1000000
 shadow "shadow, beside the collector's thread" env GC_COLLECTOR_THREAD=1 "$room/shadow" 3 300000
+
+# Under ThreadSanitizer: races of the layer's own knowledge. gc/races.h says how threads are stopped there. Of the wrapped functions only
+# those stand beside it that it doesn't call itself before it has begun.
+races=(-fsanitize=thread -g)
+if printf '#ifndef __SANITIZE_THREAD__\n#error another one\n#endif\nint main(void) { return 0; }\n' |
+    cc "${races[@]}" -x c - -o "$room/sanitized" 2>"$room/said" && "$room/sanitized" 2>"$room/said"; then
+    build "$room/races" "${races[@]}"
+    for file in syscalls syscalls_threads; do
+        cc -std=c11 -O1 -fvisibility=hidden "${races[@]}" -c "$top/gc/kernel/$file.c" -o "$room/races/$file.o"
+    done
+    for test in threads together collector finalizers; do
+        "${c[@]}" "${races[@]}" "$top/tests/gc/$test.c" "$room"/races/syscalls*.o "$room/races/libmpgc.a" -pthread -o "$room/races/$test" \
+            2>"$room/said"
+        is "$test is built to look for races" "" "$(cat "$room/said")"
+    done
+    export TSAN_OPTIONS=die_after_fork=0
+    for setting in FULL INCREMENTAL GC_COLLECTOR_THREAD; do
+        shadow "races of threads, $setting" env GC_FREE_SPACE_DIVISOR=60 $setting=1 "$room/races/threads" 3 3
+        counted "races of together, $setting" env $setting=1 "$room/races/together" 4 3
+    done
+    counted "races of collector" "$room/races/collector" 1
+    counted "races of finalizers, beside the collector's thread" env GC_COLLECTOR_THREAD=1 "$room/races/finalizers"
+    unset TSAN_OPTIONS
+else
+    skip "GCC's ThreadSanitizer, that starts here" "races of the layer"
+fi
 
 # Faults of the layer, each of which a test has to notice.
 for file in syscalls syscalls_more syscalls_checked syscalls_threads; do

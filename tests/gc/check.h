@@ -48,13 +48,17 @@ static inline int stops_with(void (*body)(void), const char *words)
     return WIFSIGNALED(status) && WTERMSIG(status) == SIGABRT && strstr(said, words) != NULL;
 }
 
-/* Runs the body in a child, and answers its status. */
+/* Runs the body in a child, and answers its status. What the child says is said. */
 static inline int status_of(int (*body)(void))
 {
     int status;
     fflush(stdout);
     pid_t child = fork();
-    if (child == 0) _exit(body());
+    if (child == 0) {
+        status = body();
+        fflush(stdout);
+        _exit(status);
+    }
     waitpid(child, &status, 0);
     return WIFEXITED(status) ? WEXITSTATUS(status) : -1;
 }

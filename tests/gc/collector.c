@@ -12,7 +12,9 @@
 #include <stdint.h>
 #include <time.h>
 #include "gc.h"
+#include <gc/gc_mark.h>
 #include "check.h"
+#include "waits.h"
 #include "watch.h"
 
 enum { THREADS = 3, NODES = 4000, SLOTS = 200 };
@@ -209,7 +211,7 @@ static void moving(double seconds)
  * the nodes of a graph, of which the marker may have read none yet. */
 static struct node *volatile *page;
 static uint64_t page_tags[2][SLOTS];
-static pthread_barrier_t both;
+static struct meeting both;
 
 static void swap_with_page(struct graph *graph, unsigned side, uint64_t slot, uint64_t k)
 {
@@ -227,9 +229,9 @@ static void *write_to_page(void *seed)
     unsigned side = (uintptr_t)seed % 2;
     struct graph graph = new_graph((uintptr_t)seed + 40);
     for (int round = 0, is_last = 0; !is_last; round++) {
-        pthread_barrier_wait(&both);
+        meet(&both);
         is_last = is_over;
-        pthread_barrier_wait(&both);
+        meet(&both);
         for (int k = 0; k < 60; k++) swap_with_page(&graph, side, draw(&graph, SLOTS), draw(&graph, NODES));
         for (int k = 0; k < 200; k++) waste();
         if (!goes_on()) is_over = 1;
@@ -242,14 +244,13 @@ static void *write_to_page(void *seed)
 static void on_one_page(double seconds)
 {
     pthread_t other;
-    pthread_barrier_init(&both, NULL, 2);
+    will_meet(&both, 2);
     for (unsigned side = 0; side < 2; side++)
         for (unsigned k = 0; k < SLOTS; k++) page[side * SLOTS + k] = new_node(&page_tags[side][k], NULL);
     go_on_for(seconds);
     pthread_create(&other, NULL, write_to_page, (void *)1);
     write_to_page((void *)2);
     pthread_join(other, NULL);
-    pthread_barrier_destroy(&both);
     CHECK(lost == 0);
 }
 
@@ -412,6 +413,44 @@ static int ends_with_its_last_thread(void)
     return seen == child && WIFEXITED(status) && WEXITSTATUS(status) == 0;
 }
 
+/* Behind a call under the lock the program has a moment's work to do, and is let do it before its roots are read. It is waited for so long
+   and no longer: on a machine that gives it no processor meanwhile a reading or two come before. */
+static volatile int is_between;
+static int readings, caught;
+static GC_push_other_roots_proc others;
+static void work_for(int rounds)
+{
+    for (volatile int k = 0; k < rounds; k++) continue;
+}
+static void *begin_between(void *data)
+{
+    is_between = 1;
+    work_for(100000);
+    return data;
+}
+static void note_reading(void)
+{
+    readings++;
+    caught += is_between;
+    if (others) others();
+}
+static void behind_calls(void)
+{
+    void *volatile held[60];
+    GC_word end = GC_get_gc_no() + 200;
+    others = GC_get_push_other_roots();
+    GC_set_push_other_roots(note_reading);
+    while (GC_get_gc_no() < end) {
+        for (int k = 0; k < 60; k++) held[k] = GC_malloc(40);
+        GC_call_with_alloc_lock(begin_between, NULL);
+        work_for(3000);
+        is_between = 0;
+    }
+    (void)held[0];
+    GC_set_push_other_roots(others);
+    CHECK(readings >= 200 && caught <= 4);
+}
+
 int main(int count, char **words)
 {
     double seconds = count > 1 ? atof(words[1]) : 2;
@@ -420,6 +459,7 @@ int main(int count, char **words)
     GC_INIT();
     GC_enable_collector_thread();
     page = GC_malloc(2 * SLOTS * sizeof *page);
+    behind_calls();
     alone(seconds / 4);
     on_one_page(seconds / 2);
     moving(seconds);

@@ -107,22 +107,31 @@ static void finalizers_keep(void)
     collect();
 }
 
+/* So many were noted with a number from this one on: one that an old word of the stack had kept until now has a lower one. */
+static int noted_from(int first)
+{
+    int many = 0;
+    for (int k = 0; k < count; k++) many += order[k] >= first;
+    return many;
+}
+
+enum { REACHED = 10000, TOLD = 20000 };
 static struct object *reached[MANY];
 static void reached_stay(void)
 {
     count = 0;
     for (int k = 0; k < MANY; k++) {
-        reached[k] = make((uint64_t)k, NULL);
+        reached[k] = make((uint64_t)(REACHED + k), NULL);
         GC_register_finalizer(reached[k], note, NULL, NULL, NULL);
     }
     collect();
-    CHECK(count == 0);
+    CHECK(noted_from(REACHED) == 0);
     for (int k = 0; k < MANY; k += 2) reached[k] = NULL;
     collect();
-    CHECK(count >= MANY / 2 - 2 && count <= MANY / 2);
+    CHECK(noted_from(REACHED) >= MANY / 2 - 2 && noted_from(REACHED) <= MANY / 2);
     memset(reached, 0, sizeof reached);
     collect();
-    CHECK(count >= MANY - 2 && count <= MANY);
+    CHECK(noted_from(REACHED) >= MANY - 2 && noted_from(REACHED) <= MANY);
 }
 
 /* A ring is never finalized in order, but if its pointers are to itself and ignored. */
@@ -161,7 +170,7 @@ static void registering(void)
 {
     GC_finalization_proc old = keep;
     void *old_data = &count;
-    struct object *volatile object = make(1, NULL);
+    struct object *volatile object = make(TOLD, NULL);
     static int local;
     GC_register_finalizer(object, note, &local, &old, &old_data);
     CHECK(old == NULL && old_data == NULL);
@@ -174,7 +183,7 @@ static void registering(void)
     count = 0;
     object = NULL;
     collect();
-    CHECK(count == 0);
+    CHECK(noted_from(TOLD) == 0);
 }
 
 /* The data that a finalizer is given is kept. */
@@ -225,6 +234,33 @@ static void atomic_ones_go(void)
 #else
     CHECK(atomics >= MANY - 2);
 #endif
+}
+
+/* A program may name its objects with a tag in the lowest bits: its function is told the same name. */
+enum { TAG = 1 };
+static int tagged, mistagged;
+static void note_tagged(void *named, void *data)
+{
+    struct object *object = (void *)((char *)named - TAG);
+    tagged++;
+    mistagged += (uintptr_t)object % 16 != 0 || object->number != (uintptr_t)data;
+}
+static __attribute__((noinline)) void make_tagged(void)
+{
+    GC_finalization_proc was;
+    void *data;
+    for (uintptr_t k = 0; k < MANY; k++)
+        GC_register_finalizer_no_order((char *)make(k, NULL) + TAG, note_tagged, (void *)k, NULL, NULL);
+    char *named = (char *)make(7, NULL) + TAG;
+    GC_register_finalizer_no_order(named, note_tagged, &tagged, NULL, NULL);
+    GC_register_finalizer_no_order(named, NULL, NULL, &was, &data);
+    CHECK(was == note_tagged && data == &tagged);
+}
+static void tagged_ones_go(void)
+{
+    make_tagged();
+    collect();
+    CHECK(tagged >= MANY - 2 && tagged <= MANY && mistagged == 0);
 }
 
 /* Short links go before the finalizer, long ones after. */
@@ -343,6 +379,7 @@ int main(void)
     registering();
     data_is_kept();
     atomic_ones_go();
+    tagged_ones_go();
     links_go();
     on_demand();
     again_and_again();

@@ -1,6 +1,7 @@
 /* System calls that write into the heap while a cycle marks: into pointer-free objects, and, under libmpgc.so, into ordinary ones, whose
  * pages are closed. -DWITHOUT_SYSCALLS where the library is the archive, which has none of these functions of the C library. */
 #define _GNU_SOURCE
+#include <errno.h>
 #include <arpa/inet.h>
 #include <fcntl.h>
 #include <netinet/in.h>
@@ -191,7 +192,8 @@ static void of_the_rest(void)
     CHECK(clock_gettime(CLOCK_PROCESS_CPUTIME_ID, time) == 0 && time->tv_sec + time->tv_nsec > 0);
     CHECK(getrandom(closed(320), 100, 0) == 100);
     struct timespec *left = place(323), moment = { 0, 1000 };
-    CHECK(nanosleep(&moment, left) == 0);
+    int slept = nanosleep(&moment, left);
+    CHECK(slept == 0 || errno == EINTR);  // a stop of the world interrupts it
     struct rusage *used = place(325);
     CHECK(getrusage(RUSAGE_SELF, used) == 0 && used->ru_maxrss > 0);
     struct utsname *names = place(327);

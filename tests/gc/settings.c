@@ -283,9 +283,6 @@ static NOINLINE void stops(void)
     CHECK(sink != NULL);
     GC_change_stubborn(sink);
     GC_debug_change_stubborn(sink);
-    CHECK(GC_get_parallel() == 0);
-    GC_set_markers_count(1);
-    GC_start_mark_threads();
     GC_allow_register_threads();
     GC_atfork_prepare();
     GC_atfork_parent();
@@ -297,8 +294,32 @@ static NOINLINE void stops(void)
 }
 #endif
 
+/* How many threads mark besides the one that collects: of libmpgc none, whoever asks for them, and of bdwgc as many as it was told of. */
+extern int GC_parallel, GC_get_parallel(void);
+extern void GC_set_markers_count(unsigned count), GC_allow_register_threads(void), GC_start_mark_threads(void);
+static int markers(void)
+{
+    struct GC_prof_stats_s stats;
+#ifdef OTHER
+    enum { WANTED = 2 };
+#else
+    enum { WANTED = 0 };
+#endif
+    setenv("GC_MARKERS", "3", 1);
+    GC_set_markers_count(3);
+    GC_INIT();
+    CHECK(GC_get_parallel() == 0);
+    GC_allow_register_threads();
+    GC_start_mark_threads();
+    GC_gcollect();
+    GC_get_prof_stats(&stats, sizeof stats);
+    CHECK(GC_get_parallel() == WANTED && GC_parallel == WANTED && stats.markers_m1 == WANTED);
+    return failed != 0;
+}
+
 int main(void)
 {
+    CHECK(status_of(markers) == 0);
     GC_INIT();
     callbacks();
     figures();

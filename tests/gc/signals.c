@@ -168,6 +168,36 @@ static int ticks_are_harmless(void)
     return 0;
 }
 
+/* A stack for signals in a frame that goes: what lies there later stays as it is, though faults are handled on such a stack. */
+enum { FRAME = 16384 };
+static void *asked;
+__attribute__((noinline)) static int ask_for_a_frame(void)
+{
+    char frame[FRAME];
+    stack_t stack = { .ss_sp = frame, .ss_size = sizeof frame }, seen;
+    asked = frame;
+    return sigaltstack(&stack, NULL) == 0 && sigaltstack(NULL, &seen) == 0 && seen.ss_sp == frame && seen.ss_size == sizeof frame;
+}
+__attribute__((noinline)) static int is_written_over(void)
+{
+    volatile unsigned char frame[FRAME];
+    for (size_t k = 0; k < FRAME; k++) frame[k] = 7;
+    write_some(0);
+    int others = 0;
+    for (size_t k = 0; k < FRAME; k++) others += frame[k] != 7;
+    return others;
+}
+static int frames_that_went_are_no_stacks(void)
+{
+    stack_t none = { .ss_flags = SS_DISABLE }, seen;
+    begin();
+    if (!ask_for_a_frame()) return 1;
+    if (is_written_over() != 0) return 2;
+    end();
+    if (sigaltstack(&none, &seen) != 0 || seen.ss_sp != asked) return 3;
+    return sigaltstack(NULL, &seen) == 0 && (seen.ss_flags & SS_DISABLE) ? 0 : 4;
+}
+
 int main(void)
 {
     GC_INIT();
@@ -182,5 +212,6 @@ int main(void)
     CHECK(status_of(is_handled_when_sent) == 0);
     CHECK(status_of(old_names_are_behind_the_barrier) == 0);
     CHECK(status_of(ticks_are_harmless) == 0);
+    CHECK(status_of(frames_that_went_are_no_stacks) == 0);
     return check_ends();
 }

@@ -15,6 +15,7 @@
 #include <time.h>
 #include <unistd.h>
 #include "gc.h"
+#include "waits.h"
 
 enum { LISTS = 6, MOST = 300, SHARED = 8, KEPT = LISTS / 3 };
 
@@ -34,7 +35,7 @@ static _Thread_local struct node *volatile local[KEPT];
 static struct { pthread_mutex_t lock; struct node *volatile head; struct shadow *shadow; } shared[SHARED];
 static pthread_key_t key;
 static double until;
-static volatile int is_over;
+static _Atomic int is_over;
 static _Atomic uint64_t operations, compared, made;
 
 static double now(void)
@@ -134,7 +135,7 @@ static void exchange(struct list *list, uint64_t which)
     struct shadow *shadow;
     struct node *head;
     which %= SHARED;
-    pthread_mutex_lock(&shared[which].lock);
+    take_lock(&shared[which].lock);
     head = shared[which].head;
     shared[which].head = *list->head;
     *list->head = head;
