@@ -1,91 +1,103 @@
 #!/usr/bin/env bash
-# tests/debian.sh [--install] [NAME..]
+# tests/debian.sh [--install] [--large] [NAME..]
 #
-# Programs of Debian's packages that use libgc, each on an input of tests/debian, over libgc and over libmpgc by LD_PRELOAD: the same
-# output, status and files, in full collections and in small steps? It prints a table:
+# Programs of Debian's packages that use libgc, each on a short input of tests/debian, or with --large on a larger one of tests/debian/large,
+# over libgc and over libmpgc by LD_PRELOAD: the same output, status and files, in full collections, in small steps, and with the collector's
+# own thread? It prints a table:
 #
-#     | PROGRAM | full | steps | collections, full and steps | seconds over libgc, full, steps |
+#     | PROGRAM | full | steps | thread | collections of these | seconds over libgc and of these | MB of the same |
 #
-# where full and steps are `same`, `differs` (with the first line that does, and whether libgc itself differs in its own small steps), or
-# `stops` (with the sentence). --install installs with
-# apt-get what is to be had; a program that isn't here is said. With NAMEs only those run. Its last line is `N same, M not, K left out`.
-# MPHEAP_ARCHIVE and MPHEAP_INCLUDE are those of gc/build. GC_FREE_SPACE_DIVISOR is 300, as in tests/gc.sh, unless it is set.
+# where full, steps and thread are `same`, `differs` (with the first line that does, and whether libgc itself differs in its own small
+# steps), or `stops` (with the sentence), and MB are the most memory that was resident, by GNU time, or `-` where that isn't here. --install
+# installs with apt-get what is to be had; a program that isn't here is said. With NAMEs only those run. Its last line is `N same, M not, K
+# left out`. MPHEAP_ARCHIVE and MPHEAP_INCLUDE are those of gc/build. GC_FREE_SPACE_DIVISOR is the list's, unless it is set; MODES are the
+# three, and SECONDS_EACH 300, unless they are set; what was said and written goes to the folder KEEP, if it is set.
+#
+# The lists are the files `programs` of the two folders: NAME | PACKAGE | DIVISOR | FILES that are written, and compared | COMMAND.
 set -uo pipefail
 top=$(dirname "$(dirname "$(readlink -f "${BASH_SOURCE[0]}")")")
 room=$(mktemp -d)
 trap 'rm -rf "$room"' EXIT
 trap 'exit 143' INT TERM HUP
-export GC_FREE_SPACE_DIVISOR=${GC_FREE_SPACE_DIVISOR:-300} LC_ALL=C.UTF-8 HOME=$room/home
-
-# NAME | PACKAGES | FILES that it writes, and are compared | COMMAND, in a folder with the inputs
-programs() {
-    cat <<'PROGRAMS'
-w3m | w3m | | w3m -dump page.html
-mmv | mmv | | mmv -n "files/*.c" "files/#1.h"
-chase | chase | | chase second
-parser3 | parser3-cgi | | parser3 lists.p
-debfoster | debfoster | | debfoster -q -n -d bash
-mailutils-mh | mailutils-mh | | /usr/bin/mu-mh/inc -version
-nekoc | neko | lists.n | nekoc lists.neko
-neko | neko | | neko made-lists.n
-neko-threads | neko | | neko made-threads.n
-guile-3.0 | guile-3.0 | | GUILE_AUTO_COMPILE=0 /usr/lib/x86_64-linux-gnu/guile/3.0/bin/guile lists.scm
-guile-3.0-compile | guile-3.0 | lists.go | GUILE_AUTO_COMPILE=0 /usr/lib/x86_64-linux-gnu/guile/3.0/bin/guile --no-auto-compile -c '((@ (system base compile) compile-file) "lists.scm" #:output-file "lists.go")'
-guile-2.2 | guile-2.2 | | GUILE_AUTO_COMPILE=0 /usr/lib/x86_64-linux-gnu/guile/2.2/bin/guile lists.scm
-guile-2.2-compile | guile-2.2 | lists.go | GUILE_AUTO_COMPILE=0 /usr/lib/x86_64-linux-gnu/guile/2.2/bin/guile --no-auto-compile -c '((@ (system base compile) compile-file) "lists.scm" #:output-file "lists.go")'
-poke | poke | | poke -q -s bytes.pk </dev/null
-inkscape-png | inkscape | drawing.png | inkscape drawing.svg --export-type=png --export-filename=drawing.png
-inkscape-svg | inkscape | plain.svg | inkscape drawing.svg --export-plain-svg --export-filename=plain.svg
-ecl | ecl | | ecl --shell lists.lisp
-crystal | crystal | | crystal build --no-color tree.cr -o tree && test -x tree && echo built
-crystal-program | crystal | | ./tree.crystal
-lilypond | lilypond | page.svg page.midi | lilypond -s --svg -dno-point-and-click page.ly
-asymptote | asymptote | curve.eps | asy -noV -f eps curve.asy && sed -i /^%/d curve.eps
-nix | nix-bin | | nix-instantiate --eval --strict lists.nix
-stalin | stalin | fib.c | stalin -d -On -Ob -Om -Or -Ot -c fib.sch
-goo | goo | | GOO_ROOT=/usr/lib/goo goo <lists.goo
-fauhdlc | fauhdlc | entity.fauhdl | fauhdlc -o entity.fauhdl entity.vhd
-macaulay2 | macaulay2 | | M2 --script ideal.m2
-homfly | libhomfly-dev | | ./knot
-objective-c | gobjc | | ./list
-PROGRAMS
-}
+export LC_ALL=C.UTF-8 HOME=$room/home
+read -ra modes <<<"${MODES:-full steps thread}"
 
 # field N LINE: without the blanks round it.
 field() { cut -d '|' -f "$1" <<<"$2" | sed 's/^ *//; s/ *$//'; }
 
 is_installed() { dpkg-query -W -f '${Status}' "$1" 2>/dev/null | grep -q 'ok installed'; }
 
-# The folder of a run, with the inputs, and what is compiled of them.
-inputs() {
-    rm -rf "$room/run" "$HOME"
-    cp -r "$top/tests/debian" "$room/run"
-    mkdir -p "$room/run/files" "$HOME"
-    touch "$room"/run/files/{one,two,three,four}.c
-    ln -s page.html "$room/run/first"
-    ln -s first "$room/run/second"
-    for k in $(seq 1 120); do printf '<p>Paragraph %d with <i>some</i> words that are broken into lines of a page.</p>\n' "$k"; done >>"$room/run/page.html"
-    for made in "$room"/made/*; do [ ! -e "$made" ] || cp "$made" "$room/run"; done
+# compile NAME: what has to be compiled before, into $room/made. Sources are those of the folder of inputs.
+compile() {
+    local made
+    case $1 in
+        crystal-threads) (cd "$room/made" && crystal build --no-color -Dpreview_mt "$inputs/fibers.cr" -o fibers.threads) ;;
+        crystal-program) (cd "$room/made" && crystal build --no-color "$inputs"/*.cr -o "$(basename "$inputs"/*.cr .cr).crystal") ;;
+        homfly) cc "$inputs/knot.c" -o "$room/made/knot" -lhomfly ;;
+        neko*)
+            for made in "$room"/inputs/*.neko; do
+                cp "$made" "$room/made/made-$(basename "$made")"
+                nekoc "$room/made/made-$(basename "$made")"
+            done
+            ;;
+        objective-c) gcc -std=gnu11 "$inputs/list.m" -o "$room/made/list" -lobjc_gc ;;
+        stalin-program)
+            (cd "$room/made" && cp "$inputs/list.sch" . && stalin -d -On -Ob -Om -Or -Ot -c list.sch &&
+                gcc -w -O1 -fno-strict-aliasing -I/usr/include/gc -I/usr/lib/stalin list.c -o list.stalin -lgc -lm)
+            ;;
+    esac >"$room/said" 2>&1
 }
 
-# once TO PRELOAD MODE COMMAND FILES..: runs it, and leaves what it said and wrote in TO, what libmpgc counted in TO.counts.
+# The inputs, those that are long among them.
+make_inputs() {
+    local k
+    cp -r "$inputs" "$room/inputs"
+    if $is_large; then
+        "$inputs/make" "$room/inputs"
+        return
+    fi
+    mkdir "$room/inputs/files"
+    touch "$room"/inputs/files/{one,two,three,four}.c
+    ln -s page.html "$room/inputs/first"
+    ln -s first "$room/inputs/second"
+    for k in $(seq 1 120); do
+        printf '<p>Paragraph %d with <i>some</i> words that are broken into lines of a page.</p>\n' "$k"
+    done >>"$room/inputs/page.html"
+}
+
+# The folder of a run, with the inputs, and what is compiled of them.
+fresh_folder() {
+    rm -rf "$room/run" "$HOME"
+    cp -r "$room/inputs" "$room/run"
+    mkdir -p "$HOME"
+    cp -r "$room/made/." "$room/run"
+}
+
+# What differs by nature: numbers of processes, and times.
+masked() { sed 's/\([(:]\)[0-9]\{2,\}\([):]\)/\1PID\2/; s/[0-9][0-9]:[0-9][0-9]:[0-9][0-9][.0-9]*/TIME/'; }
+
+# once TO PRELOAD MODE COMMAND FILES..: runs it, and leaves what it said and wrote in TO, what libmpgc counted in TO.counts, and in
+# TO.seconds and TO.memory what it took.
 once() {
-    local to=$1 preload=$2 mode=$3 command=$4 start end file
+    local to=$1 preload=$2 mode=$3 command=$4 start file timed=()
     shift 4
-    inputs
-    start=$(date +%s.%N)
+    fresh_folder
+    [ ! -x /usr/bin/time ] || timed=(/usr/bin/time -q -f %M -o "$to.memory")
+    echo - >"$to.memory"
+    start=$EPOCHREALTIME
     (
         cd "$room/run" || exit 1
         [ -z "$preload" ] || export "LD_PRELOAD=$preload" GC_PRINT_STATS=1
-        [ "$mode" = full ] || export GC_ENABLE_INCREMENTAL=1
-        timeout -s KILL "${SECONDS_EACH:-300}" bash -c "$command" <"$top/tests/debian/page.html"
+        [ "$mode" != steps ] || export GC_ENABLE_INCREMENTAL=1
+        [ "$mode" != thread ] || export GC_COLLECTOR_THREAD=1
+        timeout -s KILL "${SECONDS_EACH:-300}" "${timed[@]}" bash -c "$command" <"$top/tests/debian/page.html"
     ) >"$to.out" 2>"$to.err"
     echo "status $?" >>"$to.out"
-    end=$(date +%s.%N)
-    awk -v a="$start" -v b="$end" 'BEGIN { printf "%.1f", b - a }' >"$to.seconds"
-    grep '^mpgc: ' "$to.err" >"$to.counts"
-    { cat "$to.out"; grep -v '^mpgc: ' "$to.err" | sed 's/\([(:]\)[0-9]\{2,\}\([):]\)/\1PID\2/; s/[0-9][0-9]:[0-9][0-9]:[0-9][0-9][.0-9]*/TIME/'; } >"$to"
-    for file in "$@"; do { echo "file $file"; cat "$room/run/$file"; } >>"$to" 2>&1; done
+    awk -v a="$start" -v b="$EPOCHREALTIME" 'BEGIN { printf "%.1f", b - a }' >"$to.seconds"
+    grep -a '^mpgc: ' "$to.err" >"$to.counts"
+    { cat "$to.out"; grep -av '^mpgc: ' "$to.err" | masked; } >"$to"
+    # shellcheck disable=SC2068 # (a name may be a pattern)
+    (cd "$room/run" && for file in ${@}; do echo "file $file"; cat "$file"; done) >>"$to" 2>&1
 }
 
 # said WANTED SEEN: what the run over libmpgc came to.
@@ -103,21 +115,63 @@ said() {
 }
 
 collections() { awk -F '[ :]+' '/ collections: / { sum += $2 } END { print sum + 0 }' "$1.counts"; }
+megabytes() { awk '/^[0-9]/ { most = sprintf("%.0f", $1 / 1024) } END { print most == "" ? "-" : most }' "$1.memory"; }
+
+# of_each WHAT NAMES..: what it says of each, with commas between.
+of_each() {
+    local name answers=()
+    for name in "${@:2}"; do answers+=("$("$1" "$room/$name")"); done
+    printf '%s, ' "${answers[@]}" | sed 's/, $//'
+}
+seconds() { cat "$1.seconds"; }
+
+# compare NAME COMMAND FILES..: over libgc, and in each mode over libmpgc; a row of the table.
+compare() {
+    local name=$1 mode what row="" is_same=true
+    shift
+    once "$room/wanted" "" full "$@"
+    rm -f "$room"/other*
+    for mode in "${modes[@]}"; do
+        once "$room/$mode" "$preload" "$mode" "$@"
+        what=$(said "$room/wanted" "$room/$mode")
+        if [ "$what" != same ]; then
+            is_same=false
+            [ "$mode" = full ] || [ -e "$room/other" ] || once "$room/other" "" steps "$@"
+            [ "$mode" = full ] || cmp -s "$room/wanted" "$room/other" || what="$what; so does libgc in steps"
+        fi
+        row="$row $what |"
+    done
+    echo "| $name |$row $(of_each collections "${modes[@]}") |" \
+        "$(of_each seconds wanted "${modes[@]}") | $(of_each megabytes wanted "${modes[@]}") |"
+    [ -z "${KEEP:-}" ] || for what in wanted "${modes[@]}"; do
+        cp "$room/$what" "$KEEP/$name.$what"
+        cp "$room/$what.err" "$KEEP/$name.$what.err"
+    done
+    $is_same
+}
 
 install=false
-if [ "${1:-}" = --install ]; then
-    install=true
+is_large=false
+while [[ ${1:-} = --* ]]; do
+    case $1 in
+        --install) install=true ;;
+        --large) is_large=true ;;
+        *) echo "debian.sh: no such option: $1" >&2; exit 2 ;;
+    esac
     shift
-fi
+done
+inputs=$top/tests/debian
+$is_large && inputs=$inputs/large
 wanted=" $* "
 "$top/gc/build" "$room/lib" || exit 1
 mkdir -p "$room/made"
+make_inputs
 preload=$room/lib/libmpgc.so
 same=0
 not=0
 left=()
-echo "| Program | full | steps | collections | seconds |"
-echo "|---|---|---|---|---|"
+echo "| Program | $(printf '%s | ' "${modes[@]}")collections | seconds | MB |"
+echo "|---|$(printf -- '---|%.0s' "${modes[@]}")---|---|---|"
 while read -r line; do
     name=$(field 1 "$line")
     package=$(field 2 "$line")
@@ -129,33 +183,11 @@ while read -r line; do
         left+=("$name ($package isn't here)")
         continue
     fi
-    case $name in
-        crystal-program) (cd "$room/made" && crystal build --no-color "$top/tests/debian/tree.cr" -o tree.crystal) >"$room/said" 2>&1 ;;
-        homfly) cc "$top/tests/debian/knot.c" -o "$room/made/knot" -lhomfly >"$room/said" 2>&1 ;;
-        neko*)
-            for made in lists threads; do
-                cp "$top/tests/debian/$made.neko" "$room/made/made-$made.neko"
-                nekoc "$room/made/made-$made.neko" >"$room/said" 2>&1
-            done
-            ;;
-        objective-c) gcc -std=gnu11 "$top/tests/debian/list.m" -o "$room/made/list" -lobjc_gc >"$room/said" 2>&1 ;;
-    esac
-    read -ra files <<<"$(field 3 "$line")"
-    command=$(cut -d '|' -f 4- <<<"$line")
-    once "$room/wanted" "" full "$command" "${files[@]}"
-    once "$room/full" "$preload" full "$command" "${files[@]}"
-    once "$room/steps" "$preload" steps "$command" "${files[@]}"
-    full=$(said "$room/wanted" "$room/full")
-    steps=$(said "$room/wanted" "$room/steps")
-    if [ "$steps" != same ]; then
-        once "$room/other" "" steps "$command" "${files[@]}"
-        cmp -s "$room/wanted" "$room/other" || steps="$steps; so does libgc in steps"
-    fi
-    [ -z "${KEEP:-}" ] || cp "$room"/{wanted,full,steps}* "$KEEP"
-    if [ "$full$steps" = samesame ]; then same=$((same + 1)); else not=$((not + 1)); fi
-    echo "| $name | $full | $steps | $(collections "$room/full"), $(collections "$room/steps") |" \
-        "$(cat "$room/wanted.seconds"), $(cat "$room/full.seconds"), $(cat "$room/steps.seconds") |"
-done < <(programs)
+    compile "$name"
+    read -ra files <<<"$(field 4 "$line")"
+    command="export GC_FREE_SPACE_DIVISOR=${GC_FREE_SPACE_DIVISOR:-$(field 3 "$line")}; $(cut -d '|' -f 5- <<<"$line")"
+    if compare "$name" "$command" "${files[@]}"; then same=$((same + 1)); else not=$((not + 1)); fi
+done <"$inputs/programs"
 for one in "${left[@]}"; do echo "left out: $one"; done
 echo "$same same, $not not, ${#left[@]} left out"
 [ "$not" = 0 ]
