@@ -85,25 +85,30 @@ build_programs() {
     works "a program for libmpgc" "${c[@]}" "$top/tests/package/program.c" "-L$1/lib" -lmpgc -o "$room/linked"
 }
 
-# copied ROOT FILE..: programs with the libraries that they load.
+# libraries_of FILE: those that it loads.
+libraries_of() { ldd "$1" | grep -o '/[^ ]*'; }
+
+# copied ROOT FILE..: the files come to the same places there.
 copied() {
-    local root=$1 file one
+    local root=$1 one
     shift
-    for file in "$@"; do
-        file=$(command -v "$file")
-        for one in "$file" $(ldd "$file" | grep -o '/[^ ]*'); do
-            mkdir -p "$root$(dirname "$one")"
-            cp -Lu "$one" "$root$one"
-        done
+    for one in "$@"; do
+        mkdir -p "$root$(dirname "$one")"
+        cp -Lu "$one" "$root$one"
     done
 }
 
 in_a_root_of_its_own() {
-    local root=$room/root
+    local root=$room/root tool
     dpkg-deb -x "$room"/mpheap_*_amd64.deb "$root"
     ln -s usr/bin "$root/bin"
-    copied "$root" bash sh env dirname readlink basename sed awk tr cat mktemp rm mkdir ls wc tail head cp mv
-    copied "$root" "$root/usr/lib/mpheap/programs/mpheap" "$root/usr/lib/libmpgc.so"
+    for tool in bash sh env dirname readlink basename sed awk tr cat mktemp rm mkdir ls wc tail head cp mv; do
+        tool=$(command -v "$tool")
+        # shellcheck disable=SC2046 # (one word for each)
+        copied "$root" "$tool" $(libraries_of "$tool")
+    done
+    # shellcheck disable=SC2046
+    copied "$root" $(libraries_of "$root/usr/lib/mpheap/programs/mpheap") $(libraries_of "$root/usr/lib/libmpgc.so")
     mkdir -p "$root/tmp" "$root/home" "$root/dev" "$root/etc"
     mknod "$root/dev/null" c 1 3
     cp "$room/libgc.so.1" "$root/usr/lib/"
@@ -129,6 +134,8 @@ if [ ! -e "$(echo "$room"/mpheap_*_amd64.deb)" ]; then
     echo "package: left out: there is no dpkg-deb, and no .deb"
 elif [ "$(id -u)" != 0 ]; then
     echo "package: left out: a root of its own, which only root can have"
+elif ! chroot / true || ! mknod "$room/null" c 1 3; then
+    echo "package: left out: a root of its own, which this root may not have"
 else
     in_a_root_of_its_own
 fi

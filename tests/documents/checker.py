@@ -44,7 +44,7 @@ class Checker:
         ended, out, said = self.call(command)
         fault = ""
         if ended != status:
-            fault = f"status {ended} in the place of {status}: {(said or out)[-1500:]}"
+            fault = f"status {ended} in the place of {status}: {said[-1500:]}{out[-6000:]}"
         elif reply is not None and not any(line.startswith(reply) for line in out.splitlines()):
             fault = f"no line begins with {reply!r}: {out[-500:]!r}"
         elif table and out.splitlines() != table:
