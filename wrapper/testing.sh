@@ -8,13 +8,15 @@ needs_compiler="programs recording_header c gc"
 
 # run_tests: its status is 0 if nothing failed, and 1 if something did.
 run_tests() {
-    local part why left_out=() started=() running=() proved=()
+    local part why left_out=() started=() running=() proved=() lanes
+    lanes=$(nproc)
     make_room
     gather_builds
-    for part in entries rows command_line programs recording_header many_runs random judged_runs record draw c gc viewer; do
+    for part in gc c judged_runs programs viewer record random draw command_line rows recording_header many_runs entries; do
         why=$(why_not "$part")
         if [[ -z $why ]]; then start_part "$part"; else left_out+=("$part: $why"); fi
     done
+    left_out+=("gc's planted faults, and its runs under sanitizers: tests/gc.sh")
     left_out+=("wrapper: of ./mpheap itself, and by a build of its own: tests/wrapper.sh")
     left_out+=("package: of what 'build' and 'package' make: tests/package.sh")
     left_out+=("refused_threads, refused_memory: of what only 'rt ci' builds")
@@ -92,11 +94,17 @@ why_not() {
     fi
 }
 
+# start_part PART: once fewer run than there are processors; those that take longest come first.
 start_part() {
-    local test
+    local test words=()
+    [[ $1 != gc ]] || words=(--quick)
+    while (($(jobs -rp | wc -l) >= lanes)); do
+        progress "${#started[@]} tests have begun; $1 comes next"
+        wait -n || true
+    done
     for test in "$here/tests/$1.sh" "$here/tests/$1.py"; do
         [[ -x $test ]] || continue
-        MPHEAP_PROGRAMS=$room/programs TMPDIR=$room "$test" >"$room/said.$1" 2>&1 </dev/null &
+        MPHEAP_PROGRAMS=$room/programs TMPDIR=$room "$test" "${words[@]}" >"$room/said.$1" 2>&1 </dev/null &
         running+=($!)
         started+=("$1")
         child=${running[*]}
