@@ -175,7 +175,10 @@ shadow "shadow, in small steps" env INCREMENTAL=1 "$room/shadow" 2 1000000
 shadow "shadow, beside the collector's thread" env GC_COLLECTOR_THREAD=1 "$room/shadow" 3 300000
 
 if [ -z "$quick" ]; then
-    for part in races planted sanitized; do . "$top/tests/gc/parts/$part.sh"; done
+    for part in races planted sanitized; do
+        # shellcheck source=/dev/null
+        . "$top/tests/gc/parts/$part.sh"
+    done
 fi
 . "$top/tests/gc/parts/distribution.sh"
 
