@@ -5,10 +5,11 @@
 # over libgc and over libmpgc by LD_PRELOAD: the same output, status and files, in full collections, in small steps, and with the collector's
 # own thread? It prints a table:
 #
-#     | PROGRAM | full | steps | thread | collections of these | seconds over libgc and of these | MB of the same |
+#     | PROGRAM | full | steps | thread | collections, of libgc and of these | seconds of the same | longest stop, in ms | MB |
 #
 # where full, steps and thread are `same`, `differs` (with the first line that does, and whether libgc itself differs in its own small
-# steps), or `stops` (with the sentence), and MB are the most memory that was resident, by GNU time, or `-` where that isn't here. --install
+# steps), or `stops` (with the sentence); the longest stop is that of a collection or a cycle's end, as libgc's and libmpgc's own figures
+# tell it; and MB are the most memory that was resident, by GNU time, or `-` where that isn't here. --install
 # installs with apt-get what is to be had; a program that isn't here is said. With NAMEs only those run. Its last line is `N same, M not, K
 # left out`. MPHEAP_ARCHIVE and MPHEAP_INCLUDE are those of gc/build. GC_FREE_SPACE_DIVISOR is the list's, unless it is set; MODES are the
 # three, and SECONDS_EACH 300, unless they are set; what was said and written goes to the folder KEEP, if it is set.
@@ -76,7 +77,7 @@ fresh_folder() {
 # What differs by nature: numbers of processes, and times.
 masked() { sed 's/\([(:]\)[0-9]\{2,\}\([):]\)/\1PID\2/; s/[0-9][0-9]:[0-9][0-9]:[0-9][0-9][.0-9]*/TIME/'; }
 
-# once TO PRELOAD MODE COMMAND FILES..: runs it, and leaves what it said and wrote in TO, what libmpgc counted in TO.counts, and in
+# once TO PRELOAD MODE COMMAND FILES..: runs it, and leaves what it said and wrote in TO, what the library counted in TO.counts, and in
 # TO.seconds and TO.memory what it took.
 once() {
     local to=$1 preload=$2 mode=$3 command=$4 start file timed=()
@@ -84,17 +85,19 @@ once() {
     fresh_folder
     [ ! -x /usr/bin/time ] || timed=(/usr/bin/time -q -f %M -o "$to.memory")
     echo - >"$to.memory"
+    rm -f "$to.log"
     start=$EPOCHREALTIME
     (
         cd "$room/run" || exit 1
-        [ -z "$preload" ] || export "LD_PRELOAD=$preload" GC_PRINT_STATS=1
+        export GC_PRINT_STATS=1 "GC_LOG_FILE=$to.log"
+        [ -z "$preload" ] || export "LD_PRELOAD=$preload"
         [ "$mode" != steps ] || export GC_ENABLE_INCREMENTAL=1
         [ "$mode" != thread ] || export GC_COLLECTOR_THREAD=1
         timeout -s KILL "${SECONDS_EACH:-300}" "${timed[@]}" bash -c "$command" <"$top/tests/debian/page.html"
     ) >"$to.out" 2>"$to.err"
     echo "status $?" >>"$to.out"
     awk -v a="$start" -v b="$EPOCHREALTIME" 'BEGIN { printf "%.1f", b - a }' >"$to.seconds"
-    grep -a '^mpgc: ' "$to.err" >"$to.counts"
+    { grep -a '^mpgc: ' "$to.err"; grep -a '^World-stopped marking took' "$to.log"; } >"$to.counts" 2>"$room/said"
     { cat "$to.out"; grep -av '^mpgc: ' "$to.err" | masked; } >"$to"
     # shellcheck disable=SC2068 # (a name may be a pattern)
     (cd "$room/run" && for file in ${@}; do echo "file $file"; cat "$file"; done) >>"$to" 2>&1
@@ -114,7 +117,15 @@ said() {
     fi
 }
 
-collections() { awk -F '[ :]+' '/ collections: / { sum += $2 } END { print sum + 0 }' "$1.counts"; }
+# libgc tells each collection in a line, libmpgc all of a process in one.
+collections() { awk -F '[ :]+' '/ collections: / { sum += $2 } /^World/ { sum++ } END { print sum + 0 }' "$1.counts"; }
+longest() {
+    awk '/^World/ { look($4 * 1000 + $6 / 1000) }
+        match($0, /the longest [0-9]+/) { look(substr($0, RSTART + 12) + 0) }
+        match($0, /longest end [0-9]+/) { look(substr($0, RSTART + 12) + 0) }
+        function look(us) { if (us > most) most = us }
+        END { printf "%.1f", most / 1000 }' "$1.counts"
+}
 megabytes() { awk '/^[0-9]/ { most = sprintf("%.0f", $1 / 1024) } END { print most == "" ? "-" : most }' "$1.memory"; }
 
 # of_each WHAT NAMES..: what it says of each, with commas between.
@@ -141,8 +152,8 @@ compare() {
         fi
         row="$row $what |"
     done
-    echo "| $name |$row $(of_each collections "${modes[@]}") |" \
-        "$(of_each seconds wanted "${modes[@]}") | $(of_each megabytes wanted "${modes[@]}") |"
+    echo "| $name |$row $(of_each collections wanted "${modes[@]}") | $(of_each seconds wanted "${modes[@]}") |" \
+        "$(of_each longest wanted "${modes[@]}") | $(of_each megabytes wanted "${modes[@]}") |"
     [ -z "${KEEP:-}" ] || for what in wanted "${modes[@]}"; do
         cp "$room/$what" "$KEEP/$name.$what"
         cp "$room/$what.err" "$KEEP/$name.$what.err"
@@ -170,8 +181,8 @@ preload=$room/lib/libmpgc.so
 same=0
 not=0
 left=()
-echo "| Program | $(printf '%s | ' "${modes[@]}")collections | seconds | MB |"
-echo "|---|$(printf -- '---|%.0s' "${modes[@]}")---|---|---|"
+echo "| Program | $(printf '%s | ' "${modes[@]}")collections | seconds | longest stop, ms | MB |"
+echo "|---|$(printf -- '---|%.0s' "${modes[@]}")---|---|---|---|"
 while read -r line; do
     name=$(field 1 "$line")
     package=$(field 2 "$line")
