@@ -1,4 +1,4 @@
-# Puts rows that are written as tests into files STEM.rt, STEM_2.rt and so on, each of at most `most` bytes, between the texts of the
+# Puts rows that are written as tests into files STEM.rt, STEM_2.rt and so on, each of at most `most` bytes and `long` lines, between the texts of the
 # variables OPENING and CLOSING. A row begins and ends at four columns; one that stands alone in its file at none, but for what its
 # literals go on with.
 
@@ -7,11 +7,13 @@ function open_file() {
     files++
     rows = 0
     bytes = length(ENVIRON["OPENING"]) + length(ENVIRON["CLOSING"]) + 2
+    lines = 0
 }
 
 function take_row() {
     kept[rows++] = row
     bytes += length(row)
+    lines += row_lines
 }
 
 # alone TEXT: a row without its last comma, four columns further out.
@@ -37,11 +39,17 @@ function close_file(    k) {
     close(file)
 }
 
-{ row = row $0 "\n" }
+function is_full() { return bytes + length(row) > most || lines + row_lines > long }
+
+{
+    row = row $0 "\n"
+    row_lines++
+}
 /^    },$/ {
-    if (files && bytes + length(row) > most) close_file()
-    if (!files || bytes + length(row) > most) open_file()
+    if (files && is_full()) close_file()
+    if (!files || is_full()) open_file()
     take_row()
     row = ""
+    row_lines = 0
 }
 END { close_file() }

@@ -5,6 +5,108 @@ use std::test::Fail;
 
 const ROWS: &[Row<'static>] = &[
     Row {
+        name: "cells_of_64_words",
+        pages: 3,
+        pieces: &[
+            Piece {
+                times: 1,
+                script: "attach\n0 set 1 268435456\n",
+                replies: "mutator 0\nok\n",
+            },
+            Piece {
+                times: 24,
+                script: "0 alloc 2 64 normal\n0 store 2 0 1\n0 copy 1 2\n",
+                replies: "ok\nok\nok\n",
+            },
+            Piece {
+                times: 1,
+                script: "0 alloc 2 64 normal\n",
+                replies: "refused 6 Full\n",
+            },
+            Piece {
+                times: 24,
+                script: "0 load 2 1 0\n0 free 1\n0 free 1\n0 copy 1 2\n",
+                replies: "ptr\nok\nrefused 3 NoObject\nok\n",
+            },
+            Piece {
+                times: 1,
+                script: "0 alloc 0 1536 normal\n0 size 0\n0 alloc 2 64 normal\n0 free 0\n0 set 1 268435456\n",
+                replies: "ok\n1536\nrefused 6 Full\nok\nok\n",
+            },
+            Piece {
+                times: 24,
+                script: "0 alloc 2 64 atomic\n0 store 2 0 1\n0 copy 1 2\n",
+                replies: "ok\nok\nok\n",
+            },
+            Piece {
+                times: 1,
+                script: "0 alloc 2 64 atomic\n",
+                replies: "refused 6 Full\n",
+            },
+            Piece {
+                times: 24,
+                script: "0 load 2 1 0\n0 free 1\n0 free 1\n0 copy 1 2\n",
+                replies: "ptr\nok\nrefused 3 NoObject\nok\n",
+            },
+            Piece {
+                times: 1,
+                script: "0 alloc 0 1536 atomic\n0 size 0\n0 alloc 2 64 atomic\n0 free 0\n",
+                replies: "ok\n1536\nrefused 6 Full\nok\n",
+            },
+        ],
+    },
+    Row {
+        name: "cells_of_96_words",
+        pages: 3,
+        pieces: &[
+            Piece {
+                times: 1,
+                script: "attach\n0 set 1 268435456\n",
+                replies: "mutator 0\nok\n",
+            },
+            Piece {
+                times: 15,
+                script: "0 alloc 2 96 normal\n0 store 2 0 1\n0 copy 1 2\n",
+                replies: "ok\nok\nok\n",
+            },
+            Piece {
+                times: 1,
+                script: "0 alloc 2 96 normal\n",
+                replies: "refused 6 Full\n",
+            },
+            Piece {
+                times: 15,
+                script: "0 load 2 1 0\n0 free 1\n0 free 1\n0 copy 1 2\n",
+                replies: "ptr\nok\nrefused 3 NoObject\nok\n",
+            },
+            Piece {
+                times: 1,
+                script: "0 alloc 0 1536 normal\n0 size 0\n0 alloc 2 96 normal\n0 free 0\n0 set 1 268435456\n",
+                replies: "ok\n1536\nrefused 6 Full\nok\nok\n",
+            },
+            Piece {
+                times: 15,
+                script: "0 alloc 2 96 atomic\n0 store 2 0 1\n0 copy 1 2\n",
+                replies: "ok\nok\nok\n",
+            },
+            Piece {
+                times: 1,
+                script: "0 alloc 2 96 atomic\n",
+                replies: "refused 6 Full\n",
+            },
+            Piece {
+                times: 15,
+                script: "0 load 2 1 0\n0 free 1\n0 free 1\n0 copy 1 2\n",
+                replies: "ptr\nok\nrefused 3 NoObject\nok\n",
+            },
+            Piece {
+                times: 1,
+                script: "0 alloc 0 1536 atomic\n0 size 0\n0 alloc 2 96 atomic\n0 free 0\n",
+                replies: "ok\n1536\nrefused 6 Full\nok\n",
+            },
+        ],
+    },
+    Row {
         name: "cells_of_128_words",
         pages: 3,
         pieces: &[
