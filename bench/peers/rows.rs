@@ -284,6 +284,7 @@ pub fn run<H: Heap>(row: &str) -> Option<(u64, u64)> {
         "alloc_2_many" => Some(alloc_2_many::<H>()),
         "alloc_1_to_40" => Some(alloc_1_to_40::<H>(PAGES, 1)),
         "alloc_on_64" => Some(alloc_1_to_40::<H>(64, 2_500)),
+        "alloc_as_large" => Some(alloc_1_to_40::<H>(471, 2_500)),
         "alloc_on_256" => Some(alloc_1_to_40::<H>(256, 10_000)),
         "alloc_on_1024" => Some(alloc_1_to_40::<H>(1_024, 40_000)),
         "alloc_on_4096" => Some(alloc_1_to_40::<H>(4_096, 160_000)),

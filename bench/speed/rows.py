@@ -17,6 +17,7 @@ WHAT = {
     "pause_100": ("behind 100", 1000),
     "pause_1000": ("behind 1,000", 1000),
     "alloc_on_64": ("1 to 40 words on 64 pages, a third of them taken by a tree that stays", 1),
+    "alloc_as_large": ("the same on 471 pages, to which bdwgc's heap grows for it", 1),
     "alloc_on_256": ("the same on 256 pages", 1),
     "alloc_on_1024": ("on 1,024 pages", 1),
     "alloc_on_4096": ("on 4,096 pages", 1),
