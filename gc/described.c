@@ -28,18 +28,21 @@ static void *procs[MPGC_PROCS];
 
 // ---- The table ----
 
-static struct described *at_base(uintptr_t base) { return (struct described *)*mpgc_place(&all, ~base); }
+// To the core a described object is pointer-free: so most words are no base of one, which their pages tell.
+static struct described *at_base(uintptr_t base)
+{
+    return mpgc_kind_at(base) == POINTER_FREE ? (struct described *)*mpgc_place(&all, ~base) : NULL;
+}
 
 static uintptr_t base_of(const struct described *one) { return ~one->entry.number; }
 
 void mpgc_forget_described(uintptr_t base)
 {
-    struct entry **at = mpgc_place(&all, ~base);
-    struct described *one = (struct described *)*at;
+    struct described *one = at_base(base);
     if (!one) return;
     *(one->newer ? &one->newer->older : &newest) = one->older;
     *(one->older ? &one->older->newer : &oldest) = one->newer;
-    mpgc_push(&to_free, mpgc_take(&all, at));
+    mpgc_push(&to_free, mpgc_take(&all, mpgc_place(&all, ~base)));
 }
 
 size_t mpgc_count_described(void) { return all.count; }
@@ -78,15 +81,19 @@ void mpgc_set_proc(unsigned number, void *marks)
 
 // ---- Reading ----
 
+static void will_be_read(struct described *one)
+{
+    one->is_read = true;
+    one->next_to_read = to_read;
+    to_read = one;
+}
+
 // The word is a root. If it is a described object it will be read.
 static void push(uintptr_t word)
 {
     mpgc_mark_from(word);
     struct described *one = at_base(word);
-    if (!one || one->is_read) return;
-    one->is_read = true;
-    one->next_to_read = to_read;
-    to_read = one;
+    if (one && !one->is_read) will_be_read(one);
 }
 
 SHOWN void *GC_mark_and_push(void *object, void *top, void *limit, void **from);
@@ -155,7 +162,7 @@ static void read_one(const struct described *one)
 static bool read_from(struct described *one)
 {
     if (one->is_read || !mpgc_is_marked(base_of(one))) return false;
-    push(base_of(one));
+    will_be_read(one);
     for (; (one = to_read);) {
         to_read = one->next_to_read;
         read_one(one);
@@ -163,16 +170,32 @@ static bool read_from(struct described *one)
     return true;
 }
 
-// Those that are marked and weren't read yet are read, and what each leads to is marked before the next one is looked at: the newest first,
-// or the oldest, since chains mostly lead from the one to the other. Answers whether there were any.
+// What was read may lead to words that aren't marked yet. They are, where one comes that isn't marked, since a chain may lead to it; but where
+// it wasn't so, twice as many pass before that is tried again.
+static struct { bool is_left; size_t passed, patience; } waiting;
+
+static void mark_before(const struct described *one)
+{
+    if (!waiting.is_left || one->is_read || mpgc_is_marked(base_of(one)) || waiting.passed++ < waiting.patience) return;
+    mpgc_mark_words();
+    waiting.patience = mpgc_is_marked(base_of(one)) ? 0 : 2 * waiting.patience + 1;
+    waiting.passed = 0;
+    waiting.is_left = false;
+}
+
+// Those that are marked and weren't read yet are read, with all that these lead to: the newest first, or the oldest, since chains mostly lead
+// from the one to the other. Answers whether there were any.
 bool mpgc_read_described(bool newest_first)
 {
     bool has_read = false;
+    waiting.passed = waiting.patience = 0;
     for (struct described *one = newest_first ? newest : oldest; one; one = newest_first ? one->older : one->newer) {
+        mark_before(one);
         if (!read_from(one)) continue;
-        mpgc_mark_words();
-        has_read = true;
+        has_read = waiting.is_left = true;
     }
+    if (has_read) mpgc_mark_words();
+    waiting.is_left = false;
     return has_read;
 }
 

@@ -1,7 +1,7 @@
 // What the audited files of libmpgc know of each other. x86-64, Linux, the GNU C library. Trusted, and not proved.
 //
 // Below them stands the proved heap of mpheap_c, above them a C program that knows bdwgc's gc.h, and may do what it likes. The proofs hold
-// for the program as far as these files keep what mpheap.h asks of a caller. They alone could lose an object or break memory: 2,308 lines
+// for the program as far as these files keep what mpheap.h asks of a caller. They alone could lose an object or break memory: 2,337 lines
 // of code in this folder, without blank ones and comments. Why names/ and kernel/ can't is said in front.h. This is all that they owe, in
 // the order in which they are best read, and the head of each says by which lines it pays:
 //
@@ -150,20 +150,29 @@ HIDDEN void mpgc_wait_suspended(void);
 HIDDEN struct thread *mpgc_record_of(pthread_t id);
 
 // Counted under the rest.
-// Every call of the core stands between these two: the fault handler then only notes a page, and it is told here.
+// Every call of the core stands between two of these: the fault handler then only notes a page, and it is told here. The inner ones stand
+// where the lock is held.
 HIDDEN void mpgc_tell_noted(void);
-static inline void mpgc_call_begins(void)
+static inline void mpgc_inner_call_begins(void)
 {
-    mpgc_lock();
     if (mpgc.is_calling) mpgc_stop("a call was made under another one: by a signal handler, or after one that jumped out of it");
     mpgc.is_calling = 1;
     atomic_signal_fence(memory_order_seq_cst);
 }
-static inline void mpgc_call_ends(void)
+static inline void mpgc_inner_call_ends(void)
 {
     atomic_signal_fence(memory_order_seq_cst);
     mpgc.is_calling = 0;
     if (!LIKELY(!atomic_load_explicit(&mpgc.noted, memory_order_relaxed))) mpgc_tell_noted();
+}
+static inline void mpgc_call_begins(void)
+{
+    mpgc_lock();
+    mpgc_inner_call_begins();
+}
+static inline void mpgc_call_ends(void)
+{
+    mpgc_inner_call_ends();
     mpgc_unlock();
 }
 

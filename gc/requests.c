@@ -24,12 +24,13 @@ int GC_get_all_interior_pointers(void) { return GC_all_interior_pointers; }
 // One byte more than asked for, so that a pointer past the end points into its own object.
 static size_t extra(void) { return GC_all_interior_pointers ? 1 : 0; }
 
+// The lock is held.
 void mpgc_free_in(uint64_t base)
 {
-    mpgc_call_begins();
+    mpgc_inner_call_begins();
     mpheap_set(&mpgc.heap, mpgc.slot, FREED, base);
     uint32_t status = mpheap_free(&mpgc.heap, mpgc.slot, FREED);
-    mpgc_call_ends();
+    mpgc_inner_call_ends();
     if (status != MPHEAP_OK) mpgc_stop("GC_free of what isn't the beginning of an object");
 }
 
@@ -154,16 +155,18 @@ bool mpgc_find(uintptr_t address, uintptr_t *base, size_t *words)
 void GC_free(void *object)
 {
     if (!object) return;
-    uintptr_t base = (uintptr_t)object;
+    uint64_t base = (uintptr_t)object, found, words = 0;
     mpgc_enter();
     mpgc_lock();
-    size_t bytes = GC_size(object);
+    mpgc_inner_call_begins();
+    (void)mpheap_kept_at(&mpgc.heap, base, &found, &words);
+    mpgc_inner_call_ends();
     mpgc_forget_finalizer(base);
     mpgc_forget_described(base);
-    mpgc_figures.freed += bytes / WORD;
+    mpgc_figures.freed += words;
     if (mpgc_is_uncollectable(base)) {
         mpgc_set_uncollectable(base, false);
-        GC_non_gc_bytes -= bytes;
+        GC_non_gc_bytes -= words * WORD;
     }
     mpgc_free_in(base);
     mpgc_unlock();

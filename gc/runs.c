@@ -24,10 +24,10 @@ static uint64_t ask(uint64_t *bases, size_t words, enum page_kind kind)
 {
     size_t most = most_of(words);
     uint64_t count = 0;
-    mpgc_call_begins();
+    mpgc_inner_call_begins();
     (void)(kind == ORDINARY ? mpheap_alloc_many(&mpgc.heap, mpgc.slot, INTO, words, bases, most, &count)
                             : mpheap_alloc_pointer_free_many(&mpgc.heap, mpgc.slot, INTO, words, bases, most, &count));
-    mpgc_call_ends();
+    mpgc_inner_call_ends();
     return count;
 }
 

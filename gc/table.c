@@ -46,11 +46,13 @@ void mpgc_put(struct table *table, struct entry *one)
     if (table->count == table->room) grow(table);
     mpgc_push(mpgc_place(table, one->number), one);
     table->count++;
+    if (++mpgc_figures.entries > mpgc_figures.most_entries) mpgc_figures.next = 0;
 }
 
 struct entry *mpgc_take(struct table *table, struct entry **at)
 {
     table->count--;
+    mpgc_figures.entries--;
     return mpgc_pop(at);
 }
 

@@ -57,18 +57,23 @@ bool mpgc_tidy(void)
     return has_opened || has_swept;
 }
 
-enum { WORDS = 1024 };  // of a step
+// The words of a step. Where it stops other threads, which takes as long as some thousands, it is of more.
+static uint64_t words_of_step(void)
+{
+    enum { ALONE = 1024, STOPPING = 8192 };
+    return mpgc_is_last_thread() ? ALONE : STOPPING;
+}
 
 // A request makes a step, and a large one more of them: another for as many words asked for since the last. But no more than it can wait for.
 static void make_steps(void)
 {
-    enum { MOST = 64 };
+    enum { WORDS = 1024, MOST = 64 };
     static uint64_t seen;
     uint64_t since = mpgc_figures.since, more = since > seen ? (since - seen) / WORDS : 0;
     if (more > MOST) more = MOST;
     seen = since;
-    mpgc_step(WORDS);
-    for (; more > 0 && mpgc_is_in_cycle(); more--) mpgc_step(WORDS);
+    mpgc_step(words_of_step());
+    for (; more > 0 && mpgc_is_in_cycle(); more--) mpgc_step(words_of_step());
 }
 
 // What is due is done, by a request; or as the program asked for it.
@@ -79,11 +84,11 @@ bool mpgc_look(bool is_asked)
     case TIDYING: mpgc_tidied(mpgc_tidy()); break;
     case WAKE:
         if (mpgc_wake_collector(true)) break;
-        mpgc_step(WORDS);
+        mpgc_step(words_of_step());
         break;
     case STEP:
         if (is_asked)
-            mpgc_step(WORDS);
+            mpgc_step(words_of_step());
         else
             make_steps();
         break;

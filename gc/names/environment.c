@@ -1,5 +1,5 @@
 // What the environment says, and how large the heap becomes.
-#include "awaited.h"
+#include "paced.h"
 #include <stdio.h>
 #include <stdlib.h>
 
@@ -52,10 +52,15 @@ void GC_set_max_heap_size(GC_word bytes)
     mpgc_figures.limit = pages == 0 || pages > MAX_PAGES ? MAX_PAGES : pages;
 }
 
+// What the program asks for beforehand is filled before the heap is collected.
 int GC_expand_hp(size_t bytes)
 {
     GC_init();
-    return mpgc_grow(mpgc_pages() + pages_of(bytes));
+    GC_alloc_lock();
+    bool answer = mpgc_grow(mpgc_pages() + pages_of(bytes));
+    if (answer) mpgc_grant(mpgc_pages());
+    GC_alloc_unlock();
+    return answer;
 }
 
 void GC_deinit(void) { }

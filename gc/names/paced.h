@@ -8,6 +8,7 @@ enum due { NOTHING, TIDYING, STEP, COLLECTION, WAKE };
 HIDDEN enum due mpgc_due(bool is_asked);
 HIDDEN enum due mpgc_due_to_collector(void);
 HIDDEN void mpgc_tidied(bool did_some);
+HIDDEN void mpgc_grant(size_t pages);
 
 // collections.c
 HIDDEN bool mpgc_tidy(void);

@@ -3,7 +3,9 @@
 // bdwgc's pace, by its free space divisor. So many words have to be asked for between two collections as are in proportion to what the next
 // one will read: twice what is kept of ordinary objects, a quarter of the pointer-free ones, and the roots; half as many before a cycle in
 // small steps. A full collection waits besides until the heap has filled the pages that it may have: where it has grown past them before so
-// much was asked for, it may have a third more. What the program has freed itself wasn't asked for, but for an eighth.
+// much was asked for, it may have a third more. What the program has freed itself wasn't asked for, but for an eighth. Pages that it asked for
+// beforehand (GC_expand_hp) are filled first, and a cycle in small steps begins when half of those that are left are. As with bdwgc, a collection
+// also comes where links, finalizers and described objects have become a third more, since a weak table keeps what is dead until then.
 #include "paced.h"
 #include <stdlib.h>
 
@@ -13,11 +15,13 @@ enum {
     LEAST_PAGES = 192,    // by which the heap may grow, by the divisor
     BETWEEN_LOOKS = 256,  // words asked for between two looks, where there is something to do
     BETWEEN_WAKES = 4096, // and where the collector's thread does it
+    LEAST_ENTRIES = 4096, // of tables, by which they may grow between two collections
     LAG = 2,              // so many budgets are asked for before requests help it
 };
 
 static uint64_t budget;               // words to ask for before the next collection
 static size_t allowed;                // pages, which the heap fills before it
+static size_t granted;                // at least so many, since the program asked for them
 static size_t full;                   // the same, or as many as it has already
 static bool is_ripe;                  // so much was asked for
 static bool is_settled;               // all pages are swept and open
@@ -46,10 +50,13 @@ static void set_budget_for(size_t used)
     uint64_t room = (mpgc_figures.limit > used ? mpgc_figures.limit - used : 0) * (PAGE / WORD);
     uint64_t most = makes_steps() ? room / 2 : room * 3 / 4;  // a cycle needs room while it marks
     budget = (2 * mpgc_figures.marked + pointer_free_in(used) / 4 + mpgc_figures.roots / WORD + OWN) / divisor();
+    uint64_t spare = (granted > used ? granted - used : 0) * (PAGE / WORD);
+    if (budget < spare / 2) budget = spare / 2;
     if (budget > most) budget = most;
     if (budget < LEAST) budget = LEAST;
     size_t enough = 2 * (used + used / divisor() + budget / (PAGE / WORD)) + LEAST_PAGES / divisor();
     if (allowed > enough) allowed = enough;
+    if (allowed < granted) allowed = granted;
 }
 
 // After a collection. Of a page that isn't swept half counts. What is still to be given out will be asked for from now on.
@@ -63,6 +70,7 @@ void mpgc_set_budget(void)
     mpgc_figures.since = left;
     mpgc_figures.freed = 0;
     mpgc_figures.next = left + BETWEEN_LOOKS;
+    mpgc_figures.most_entries = mpgc_figures.entries + (mpgc_figures.entries / 3 > LEAST_ENTRIES ? mpgc_figures.entries / 3 : LEAST_ENTRIES);
     is_ripe = false;
     is_settled = false;
 }
@@ -72,6 +80,15 @@ static void settle(void)
 {
     size_t used = mpgc_used_pages(), newer = mpgc_figures.since / (PAGE / WORD);
     set_budget_for(used > newer ? used - newer : 0);
+}
+
+// The program asked for so many pages, for which it wants no collection.
+void mpgc_grant(size_t pages)
+{
+    granted = pages;
+    settle();
+    if (full < allowed) full = allowed;
+    mpgc_figures.next = 0;
 }
 
 // No collection begins but those that the program asks for.
@@ -98,7 +115,7 @@ static bool has_filled_its_pages(void)
 
 static bool is_due(void)
 {
-    if (is_incremental && mpgc_is_in_cycle()) return true;
+    if ((is_incremental && mpgc_is_in_cycle()) || mpgc_figures.entries > mpgc_figures.most_entries) return true;
     return asked_for() >= budget && (makes_steps() || has_filled_its_pages());
 }
 
@@ -112,7 +129,8 @@ static enum due step_or_collection(void)
 // The collector has a thread of its own: a request wakes it, or helps it where it lags behind.
 static enum due due_beside(void)
 {
-    bool is_needed = is_due() || (GC_gc_no > 0 && !is_settled), is_late = mpgc_figures.since >= LAG * budget;
+    bool is_needed = is_due() || (GC_gc_no > 0 && !is_settled);
+    bool is_late = mpgc_figures.since >= LAG * budget || mpgc_figures.entries > mpgc_figures.most_entries + LEAST_ENTRIES;
     mpgc_figures.next = !is_needed ? budget : mpgc_figures.since + (is_late ? BETWEEN_LOOKS : BETWEEN_WAKES);
     if (!is_needed) return NOTHING;
     return is_late ? step_or_collection() : WAKE;

@@ -156,6 +156,23 @@ static int cannot_grow_so_far(void)
     return !GC_expand_hp(SIZE_MAX) && !GC_expand_hp(SIZE_MAX - 4000) && !GC_expand_hp((size_t)1 << 40) && GC_get_heap_size() == heap ? 0 : 1;
 }
 
+/* What the program asks for beforehand is filled without a collection. */
+static int fills_what_it_asked_for(void)
+{
+    GC_INIT();
+    if (!GC_expand_hp(64 * MEGABYTE)) return 1;
+    for (size_t bytes = 0; bytes < 48 * MEGABYTE; bytes += 1000) GC_malloc(1000);
+    return GC_get_gc_no() == 0 ? 0 : 2;
+}
+static int fills_its_first_heap(void)
+{
+    setenv("GC_INITIAL_HEAP_SIZE", "64M", 1);
+    for (size_t bytes = 0; bytes < 48 * MEGABYTE; bytes += 1000) GC_malloc(1000);
+    if (GC_get_gc_no() != 0) return 1;
+    for (size_t bytes = 0; bytes < 48 * MEGABYTE; bytes += 1000) GC_malloc(1000);
+    return GC_get_gc_no() > 0 ? 0 : 2;
+}
+
 /* In a heap of a megabyte, garbage of one size makes room for objects of every other, and for large ones. */
 static int room_is_for_all_sizes(void)
 {
@@ -254,6 +271,8 @@ int main(void)
     CHECK(status_of(has_no_limit) == 0);
     CHECK(status_of(has_no_limit_either) == 0);
     CHECK(status_of(cannot_grow_so_far) == 0);
+    CHECK(status_of(fills_what_it_asked_for) == 0);
+    CHECK(status_of(fills_its_first_heap) == 0);
     CHECK(status_of(is_small) == 0);
     CHECK(status_of(is_small_in_steps) == 0);
     CHECK(status_of(is_off_and_on) == 0);

@@ -253,8 +253,24 @@ static NOINLINE void without_a_limit(void)
     CHECK(gone >= LOTS - 20);
 }
 
+/* Links to what has gone bring a collection, also where the heap has much room. */
+static int bring_a_collection(void)
+{
+    static GC_hidden_pointer hidden[LOTS];
+    GC_INIT();
+    GC_expand_hp(1 << 26);
+    GC_word before = GC_get_gc_no();
+    for (int k = 0; k < LOTS; k++) {
+        void *object = GC_malloc(16);
+        hidden[k] = GC_HIDE_POINTER(object);
+        GC_general_register_disappearing_link((void **)&hidden[k], object);
+    }
+    return GC_get_gc_no() > before ? 0 : 1;
+}
+
 int main(void)
 {
+    CHECK(status_of(bring_a_collection) == 0);
     GC_INIT();
     without_a_limit();
 #ifndef OTHER
