@@ -182,15 +182,15 @@ static void scan_uncollectable(void)
 
 // ---- What the program and the layer push besides, while roots are taken ----
 
-static bool takes_roots;
+static bool takes_roots;  // the lock is held
 void mpgc_take_roots(bool on) { takes_roots = is_ending = on; }
 
 void mpgc_mark_from(uintptr_t word)
 {
     if (!takes_roots || !mpgc_is_inside(word)) return;
-    mpgc_call_begins();
+    mpgc_inner_call_begins();
     push(word);
-    mpgc_call_ends();
+    mpgc_inner_call_ends();
 }
 
 void mpgc_empty_stack(void)
