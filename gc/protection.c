@@ -29,7 +29,8 @@
 // was told since it was closed last. A thread that is stopped before its write faults when it goes on, if the page was closed meanwhile. So
 // each write comes after a telling behind which no call has cleaned its page. It may fall beside a call that another thread makes, but not
 // beside one that reads the program's words or cleans pages: beside one that allocates, frees, sweeps, tells or looks, which touches no
-// word of an object that the program has, and is as good before that call as behind it. And it may come between a page's opening under a
+// word of an object that the program has. The object that it writes into is kept before the call and behind it, and is pointer-free or the
+// page dirty: so it is as good behind the call (the law WrittenBesideCallsIsWrittenAfter). And it may come between a page's opening under a
 // call and its telling at that call's end: nothing reads there meanwhile, so it is as good behind the telling.
 //
 // Why it holds beside a step, where the collector has a thread of its own (names/collector.c), and the others run while it reads. Owed is
@@ -60,8 +61,9 @@
 // Of this are proved, below: what is owed (the clauses above), and that a program which pays it loses nothing, whatever it writes
 // (heap_core, the laws of direct writes); and that a step beside writers keeps the marks' invariant whatever of the moments' words it reads,
 // and counts as lines before which, or behind which, these writes were made (MarksBeside, RetracesBeside, BesideIsLines,
-// WrittenBesideIsWrittenAfter). That a write beside a call is as good before or behind it is argued here, as is all that the kernel and the
-// processor do (5 and 6 of them).
+// WrittenBesideIsWrittenAfter); and that a write beside one that allocates, frees, sweeps, tells or looks is as good behind it, if that call
+// touches no word of an object that the program has (WrittenBesideCallsIsWrittenAfter). That it touches none is argued here, as is all that
+// the kernel and the processor do (5 and 6 of them).
 //
 // Where no cycle marks nothing is owed, since a full cycle is needed then (spare.c): pages that are still closed are opened untold, by
 // blocks, at a write or a few at a time.

@@ -4,9 +4,9 @@
 //
 //   "Between calls, any 64-bit word may be put ..."   a call that reads words of the program (mpheap_begin, roots, mark, retrace, finish) is
 //                                                     made while no other thread runs: so none of its writes falls into one (but
-//                                                     mpheap_mark_beside and mpheap_retrace_beside allow them). The other calls read and
-//                                                     write no word of an object that the program has, so that a write beside one is as
-//                                                     good as one before it (argued: see protection.c)
+//                                                     mpheap_mark_beside and mpheap_retrace_beside allow them).
+//                                                     The other calls read and write no word of an object that the program has, so that a
+//                                                     write beside one is as good as one behind it (see protection.c)
 //
 // Who stops the world has the lock. Each thread that runs is sent a signal, whose handler says where its stack begins, and waits. The
 // registers that it had lie above, in the signal's frame, or where the handler saved them, if it was called late (races.h). A thread is told to go on by a number that the waiting ones wait for; no second

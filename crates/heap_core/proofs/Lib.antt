@@ -18,6 +18,7 @@ pub mod DirectStores
 pub mod DirectLines
 pub mod BesideSteps
 pub mod DirectTold
+pub mod BesideCalls
 pub mod Held
 pub mod Straight
 pub mod Legal

@@ -17,5 +17,6 @@ pub mod BesideSteps
 pub mod Unreached
 pub mod Granted
 pub mod Many
+pub mod BesideCalls
 pub mod FreedWords
 pub mod Straight

@@ -4,6 +4,7 @@
 ghost use Rattle.heap_core.specs.Held.{NewIsSound, ActsKeepSound, FewAllocationsAreRefused, GrantedWordsAreHeld, HoldersSet, HoldersStore, StoredWordIsHeld, HeldWordStays, HeldWordIsLoaded};
 ghost use Rattle.heap_core.specs.Straight.{NoCallIsNoLine, CallsAreLines};
 ghost use Rattle.heap_core.specs.BesideSteps.{BesideIsLines, WrittenBesideIsWrittenAfter};
+ghost use Rattle.heap_core.specs.BesideCalls.{WrittenBesideCallsIsWrittenAfter};
 ghost use Rattle.heap_core.specs.Unreached.{UnmarkedIsUnreached};
 ghost use Rattle.heap_core.specs.FreedWords.{FreedWordsKeepCores, FreedWordsKeepHeaps, FreedWordsKeepRuns};
 ghost use Rattle.heap_core.specs.DirectWrites.{WritesKeepCores, WritesAreStores, WritesAreLines, WritesAreVisits, ToldMayBeWritten};
@@ -71,6 +72,11 @@ pub fn beside_is_lines()
 /// What is written beside the marker is written after it.
 pub fn written_beside_is_written_after()
     ensures { WrittenBesideIsWrittenAfter }
+{}
+
+/// What is written beside a call of a mutator, a sweep or a telling is written after it.
+pub fn written_beside_calls_is_written_after()
+    ensures { WrittenBesideCallsIsWrittenAfter }
 {}
 
 /// Where all is marked that roots lead to, an object that isn't marked is one to which no root leads.
