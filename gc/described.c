@@ -170,32 +170,36 @@ static bool read_from(struct described *one)
     return true;
 }
 
-// What was read may lead to words that aren't marked yet. They are, where one comes that isn't marked, since a chain may lead to it; but where
-// it wasn't so, twice as many pass before that is tried again.
-static struct { bool is_left; size_t passed, patience; } waiting;
-
-static void mark_before(const struct described *one)
-{
-    if (!waiting.is_left || one->is_read || mpgc_is_marked(base_of(one)) || waiting.passed++ < waiting.patience) return;
-    mpgc_mark_words();
-    waiting.patience = mpgc_is_marked(base_of(one)) ? 0 : 2 * waiting.patience + 1;
-    waiting.passed = 0;
-    waiting.is_left = false;
-}
-
 // Those that are marked and weren't read yet are read, with all that these lead to: the newest first, or the oldest, since chains mostly lead
-// from the one to the other. Answers whether there were any.
+// from the one to the other. What was read may lead to one that isn't marked yet: where such ones come, all is marked that was read of, and
+// they are looked at again. That is done at the first, or, where it was for nothing, when twice as many have come. Answers whether any were read.
 bool mpgc_read_described(bool newest_first)
 {
-    bool has_read = false;
-    waiting.passed = waiting.patience = 0;
-    for (struct described *one = newest_first ? newest : oldest; one; one = newest_first ? one->older : one->newer) {
-        mark_before(one);
-        if (!read_from(one)) continue;
-        has_read = waiting.is_left = true;
+    bool has_read = false, is_left = false;
+    size_t passed = 0, patience = 0;
+    struct described *first = NULL, *last = NULL;  // of those that came; and the last that is looked at again
+    for (struct described *one = newest_first ? newest : oldest; one;) {
+        if (read_from(one)) {
+            has_read = is_left = true;
+            if (last) patience = 0;
+        } else if (is_left && !one->is_read && !first) {
+            first = one;
+        }
+        if (one == last) last = NULL;
+        bool is_enough = first && passed++ >= patience;
+        struct described *next = newest_first ? one->older : one->newer;
+        if (is_enough) {
+            mpgc_mark_words();
+            is_left = false;
+            passed = 0;
+            patience = 2 * patience + 1;
+            last = one;
+            next = first;
+            first = NULL;
+        }
+        one = next;
     }
-    if (has_read) mpgc_mark_words();
-    waiting.is_left = false;
+    if (is_left) mpgc_mark_words();
     return has_read;
 }
 

@@ -124,26 +124,31 @@ static NOINLINE void typed_array(void)
     forget_all();
 }
 
-/* Chains of typed objects, and of typed and ordinary ones by turns, that only the first one keeps. */
+/* Chains of typed objects, and of typed and ordinary ones by turns, that only the first one keeps: the newest or the oldest; with others between
+ * that nothing keeps. */
 struct link { uint64_t number; struct link *next; };
 static struct link *chain;
-static NOINLINE void make_chain(int is_mixed)
+static NOINLINE void make_chain(int is_mixed, int from_oldest)
 {
     GC_word bits[1] = { 2 };
     GC_descr type = GC_make_descriptor(bits, 2);
+    struct link *last = NULL;
     chain = NULL;
     for (uint64_t k = 0; k < 1000; k++) {
         struct link *one = is_mixed && k % 2 ? GC_malloc(sizeof *one) : GC_malloc_explicitly_typed(sizeof *one, type);
-        one->number = k;
-        one->next = chain;
-        chain = one;
+        (void)GC_malloc_explicitly_typed(sizeof *one, type);
+        one->number = from_oldest ? 999 - k : k;
+        one->next = from_oldest ? NULL : chain;
+        if (from_oldest && last) last->next = one;
+        if (!from_oldest || !last) chain = one;
+        last = one;
     }
 }
 static NOINLINE void chains(void)
 {
-    for (int is_mixed = 0; is_mixed < 2; is_mixed++) {
+    for (int way = 0; way < 4; way++) {
         uint64_t left = 1000;
-        make_chain(is_mixed);
+        make_chain(way & 1, way & 2);
         collect();
         for (struct link *one = chain; one && one->number == left - 1; one = one->next) left--;
         CHECK(left == 0);
