@@ -9,10 +9,12 @@ use Rattle.heap_spec.specs.Ranges.{IsWord}
 use Rattle.heap_spec.specs.Runs.{Told}
 use Rattle.heap_spec.specs.Sound.{IsRow}
 use Rattle.heap_spec.specs.Steps.{register}
+use Rattle.words.specs.Bits.{Has}
 use Rattle.pages.specs.Reads.{AreMoments}
 use Rattle.block_map.specs.FoundIn.{found_in}
 use Rattle.marker.specs.Beside.{TracesIn}
 use Rattle.marker.specs.Marking.{IsEmpty, StaysDirty}
+use Rattle.marker.specs.Retracing.{Retraces}
 use Rattle.roots.specs.Roots.{HasMutator}
 use Rattle.heap_core.specs.CoreContents.{CoreContents}
 use Rattle.heap_core.specs.Collections.{ReadsPage}
@@ -39,6 +41,16 @@ pub record MarksBeside (asked : ℕ) (moments : List (List ℕ)) (old : CoreCont
 pub record RetracesBeside (moments : List (List ℕ)) (old : CoreContents) (n : ℕ) (new : CoreContents) : Type 0 where
   pub on : GoesOnBeside moments old new
   pub reads : ReadsPage old new n
+
+-- This page was read again, or it was not dirty and nothing has changed.
+pub data ReadsThisPage (page : ℕ) (old new : CoreContents) : ℕ → Type 0 where
+  not_dirty : (Has old.cycle.marker.dirty page → ⊥) → new ≡ old → ReadsThisPage page old new 0
+  again : Retraces (found_in old.store.states) old.store.words page old.cycle.marker new.cycle.marker → ReadsThisPage page old new 1
+
+-- This page was read again, or it was not dirty.
+pub record RetracesPageBeside (page : ℕ) (moments : List (List ℕ)) (old : CoreContents) (n : ℕ) (new : CoreContents) : Type 0 where
+  pub on : GoesOnBeside moments old new
+  pub reads : ReadsThisPage page old new n
 
 -- the word was written: at one of the moments it stands where another one stood
 pub record IsWrittenIn (words : List ℕ) (moments : List (List ℕ)) (v : ℕ) : Type 0 where

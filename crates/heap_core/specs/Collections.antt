@@ -15,7 +15,7 @@ use Rattle.marker.specs.Marking.{IsMarked, IsBlank, IsEmpty, IsClean, IsDone, St
 use Rattle.marker.specs.Invariant.{AreRootsMarked}
 use Rattle.marker.specs.Growth.{MarksWords, Traces}
 use Rattle.marker.specs.Entries.{Takes, TakesOff}
-use Rattle.marker.specs.Retracing.{Retraces}
+use Rattle.marker.specs.Retracing.{RetracesLowest}
 use Rattle.marker.specs.Work.{dirty_pages, newly_pages, entry_words}
 use Rattle.marker.specs.Mutations.{BeginsPartial}
 use Rattle.heap_view.specs.Shows.{IsMarkedBirth}
@@ -102,7 +102,7 @@ pub record TakesWords (asked : ℕ) (old : CoreContents) (n : ℕ) (new : CoreCo
 -- A page was read again, the lowest that was dirty, or none was dirty and nothing has changed.
 pub data ReadsPage (old new : CoreContents) : ℕ → Type 0 where
   none : IsClean old.cycle.marker → new ≡ old → ReadsPage old new 0
-  page : (p : ℕ) → Retraces (found_in old.store.states) old.store.words p old.cycle.marker new.cycle.marker → ReadsPage old new 1
+  page : (p : ℕ) → RetracesLowest (found_in old.store.states) old.store.words p old.cycle.marker new.cycle.marker → ReadsPage old new 1
 
 -- A page was read again, or none was dirty, by the marker's work alone.
 pub record RetracesPage (old : CoreContents) (n : ℕ) (new : CoreContents) : Type 0 where

@@ -6,8 +6,9 @@ use Rattle.std.proofs.lemmas.List.Sums.{sum_by-set}
 use Rattle.std.proofs.lemmas.List.Elements.{Contains-append_cases, Contains-append_left, Contains-append_right}
 use Rattle.words.specs.declared.class.Kind.TheVariants.{Normal}
 use Rattle.words.specs.declared.limits.TheConstants.{PAGE_BYTES, PAGE_GRANULES, PAGE_WORDS, WORD_BYTES}
-use Rattle.words.specs.Bits.{Has, IsFirstFrom}
+use Rattle.words.specs.Bits.{Has}
 use Rattle.words.specs.Layout.{page_of, page_start}
+use Rattle.words.proofs.Sets.{has_inside}
 use Rattle.pages.specs.Memory.{word_at}
 use Rattle.block_map.specs.declared.found.Found.{Found}
 use Rattle.block_map.specs.Objects.{IsMap}
@@ -161,8 +162,8 @@ module _ (pages : ℕ) (found : ℕ → Option Found) (map : IsMap pages found) 
         within = λ f e k. closure_more found words [] [] (IsMarked b) (IsMarked a) (λ v h. h) x.within (y.within f e k);
       }
 
-  -- the lowest dirty page was made clean, and its words were read
-  module _ (page : ℕ) (old new : Marking) (size : length old.marks ≡ PAGE_GRANULES * pages) (least : IsFirstFrom old.dirty 0 page)
+  -- a dirty page was made clean, and its words were read
+  module _ (page : ℕ) (old new : Marking) (size : length old.marks ≡ PAGE_GRANULES * pages) (is_dirty : Has old.dirty page)
       (x : Rereads found words (page_start page) (page_start (page + 1)) (with_dirty old (set old.dirty page false)) new) where
     abbrev mid : Marking
     mid = with_dirty old (set old.dirty page false)
@@ -180,7 +181,7 @@ module _ (pages : ℕ) (found : ℕ → Option Found) (map : IsMap pages found) 
     still_dirty p ne h = get_or-set_other old.dirty page p false false ne ∙ h
 
     not_here : Has (set old.dirty page false) page → ⊥
-    not_here h = false≢true (sym (get_or-set_same old.dirty page false false least.inside) ∙ h)
+    not_here h = false≢true (sym (get_or-set_same old.dirty page false false (has_inside old.dirty page is_dirty)) ∙ h)
 
     before : (p : ℕ) → Has (set old.dirty page false) p → Has old.dirty p
     before p h = ⊎_elim (λ (e : p ≡ page). absurd (not_here (subst (Has (set old.dirty page false)) e h)))
@@ -190,13 +191,13 @@ module _ (pages : ℕ) (found : ℕ → Option Found) (map : IsMap pages found) 
     unfolding cost
     less =
         let a = extends.cost in
-        let e : sum_by page_words (set old.dirty page false) + page_words (get_or old.dirty page false) ≡ sum_by page_words old.dirty + 0 = sum_by-set page_words old.dirty page false false least.inside in
-        let g : page_words (get_or old.dirty page false) ≡ PAGE_WORDS = ap page_words least.member in
+        let e : sum_by page_words (set old.dirty page false) + page_words (get_or old.dirty page false) ≡ sum_by page_words old.dirty + 0 = sum_by-set page_words old.dirty page false false (has_inside old.dirty page is_dirty) in
+        let g : page_words (get_or old.dirty page false) ≡ PAGE_WORDS = ap page_words is_dirty in
         omega arith
 
     pub retraces : Retraces found words page old new
     retraces = record {
-      lowest = least;
+      dirty = is_dirty;
       reads = x;
       clean = λ h. ⊎_elim (λ d. absurd (not_here d)) (λ n. n) (extends.dirtied page h);
       others = λ p ne h. extends.dirty p (still_dirty p ne h);

@@ -38,14 +38,19 @@ pub record Rereads (found : ℕ → Option Found) (words : List ℕ) (low high :
   pub only : (w : ℕ) → Contains read w → IsWordBetween found words low high new w
   pub within : (f : Found) → found f.base ≡ Some f → IsMarked new f.base → Closure found words [] (IsMarked old) f
 
--- The lowest dirty page was made clean, and then the words on it were read again: it is clean unless an object on it was
--- newly marked, all others stay dirty, and what is left to read is less by its words.
+-- A dirty page was made clean, and then the words on it were read again: it is clean unless an object on it was newly
+-- marked, all others stay dirty, and what is left to read is less by its words.
 pub record Retraces (found : ℕ → Option Found) (words : List ℕ) (page : ℕ) (old new : Marking) : Type 0 where
-  pub lowest : IsFirstFrom old.dirty 0 page
+  pub dirty : Has old.dirty page
   pub reads : Rereads found words (page_start page) (page_start (page + 1)) (with_dirty old (slice_set old.dirty page false)) new
   pub clean : Has new.dirty page → (f : Found) × IsNewlyMarked found old new f × Covers f page
   pub others : (p : ℕ) → p ≢ page → Has old.dirty p → Has new.dirty p
   pub cost : cost found new + PAGE_WORDS ≤ cost found old
+
+-- the lowest dirty page was read again
+pub record RetracesLowest (found : ℕ → Option Found) (words : List ℕ) (page : ℕ) (old new : Marking) : Type 0 where
+  pub lowest : IsFirstFrom old.dirty 0 page
+  pub again : Retraces found words page old new
 
 -- no object that begins at the granule `low` or further on, and before the address `high`, begins before the address `at`
 pub record IsBefore (found : ℕ → Option Found) (high low at : ℕ) : Type 0 where

@@ -13,6 +13,7 @@ mod entry;
 mod marker;
 mod mutators;
 mod part;
+mod reread;
 mod retrace;
 mod run;
 mod sharing;

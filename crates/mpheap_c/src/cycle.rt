@@ -3,9 +3,9 @@ ghost use Rattle.std.specs.Prelude.{◌≡◌, ℕ, Some, true, false};
 ghost use Rattle.pages.specs.Reads.{AreMoments};
 ghost use Rattle.block_map.specs.FoundIn.{found_in};
 ghost use Rattle.marker.specs.Beside.{AreBeside, IsStill};
-ghost use Rattle.words.specs.Bits.{IsFirstFrom};
+ghost use Rattle.words.specs.Bits.{Has, IsFirstFrom};
 ghost use Rattle.heap_core.specs.CoreContents.{CoreContents};
-ghost use Rattle.heap_core.specs.BesideSteps.{MarksBeside, RetracesBeside};
+ghost use Rattle.heap_core.specs.BesideSteps.{MarksBeside, RetracesBeside, RetracesPageBeside};
 ghost use Rattle.heap_core.specs.Collections.{IsGrantedInPhase, IsGrantedPartial, IsAlwaysGranted, BeginsCycle, BeginsPartialCycle, ReadsRoots, TakesWords, RetracesPage, EndsCycle, CollectsAll, SweepsOne};
 ghost use Rattle.mpheap_c.specs.Handle.{IsOpen};
 ghost use Rattle.mpheap_c.specs.Crossing.{Holds, TellsDoneOf, TellsWordOf, HasCount, HasPhase, HasMark};
@@ -80,6 +80,25 @@ pub extern "C" fn mpheap_retrace_beside(heap: &mut Heap, asked: &Asked, count: &
 {
     let moments = asked.moments();
     word_to(heap.core().retrace_beside(moments), count)
+}
+
+/// Reads this page again, while others write on other dirty pages. Answers 1, or 0 where it isn't dirty. What the caller owes is that
+/// of [`mpheap_mark_beside`], and that nobody writes words of Normal objects on this page.
+#[unsafe(no_mangle)]
+pub extern "C" fn mpheap_retrace_page_beside(
+    heap: &mut Heap,
+    page: u32,
+    asked: &Asked,
+    count: &mut u64,
+) -> u32
+    requires open { IsOpen heap.old.core }
+    requires moments { (c : CoreContents) → heap.old.core ≡ Some c → AreMoments c.store.words asked.now.moments }
+    requires beside { (c : CoreContents) → heap.old.core ≡ Some c → AreBeside (found_in c.store.states) c.cycle.marker.dirty asked.now.moments }
+    requires still { (c : CoreContents) → heap.old.core ≡ Some c → Has c.cycle.marker.dirty page → IsStill (found_in c.store.states) c.store.words asked.now.moments page }
+    ensures { Holds (TellsWordOf result count.old count.new (λ old r new. IsGrantedInPhase true old r new (λ n. RetracesPageBeside page asked.now.moments old n new))) heap.old.core heap.new.core }
+{
+    let moments = asked.moments();
+    word_to(heap.core().retrace_page_beside(page, moments), count)
 }
 
 /// Reads the lowest dirty page again. Answers 1, or 0 where no page is dirty.

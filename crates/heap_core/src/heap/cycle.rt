@@ -4,13 +4,13 @@ ghost use Rattle.std.specs.Prelude.{◌≡◌, ℕ, true, false};
 ghost use Rattle.pages.specs.Reads.{AreMoments};
 ghost use Rattle.block_map.specs.FoundIn.{found_in};
 ghost use Rattle.marker.specs.Beside.{AreBeside, IsStill};
-ghost use Rattle.words.specs.Bits.{IsFirstFrom};
-ghost use Rattle.heap_core.specs.BesideSteps.{MarksBeside, RetracesBeside};
+ghost use Rattle.words.specs.Bits.{Has, IsFirstFrom};
+ghost use Rattle.heap_core.specs.BesideSteps.{MarksBeside, RetracesBeside, RetracesPageBeside};
 ghost use Rattle.heap_core.specs.Collections.{IsGrantedInPhase, IsAlwaysGranted, BeginsCycle, ReadsRoots, TakesWords, RetracesPage, EndsCycle, CollectsAll, SweepsOne};
 
 use super::Core;
 use pages::Moments;
-use words::Refusal;
+use words::{PageNo, Refusal};
 
 impl Core {
     /// Whether a cycle is marking.
@@ -87,6 +87,26 @@ impl Core {
         let Some(_) = self.objects.retrace_beside(&mut self.marker, moments) else {
             return Ok(0);
         };
+        Ok(1)
+    }
+
+    /// Reads this page again, on which nobody writes, while others write on other dirty pages. Answers 1, or 0 where it isn't dirty: a page
+    /// that the heap hasn't never is. The memory is read at these moments.
+    pub fn retrace_page_beside(&mut self, page: PageNo, moments: Moments) -> Result<u64, Refusal>
+        requires moments { AreMoments self.old.store.words moments.list }
+        requires beside { AreBeside (found_in self.old.store.states) self.old.cycle.marker.dirty moments.list }
+        requires still { Has self.old.cycle.marker.dirty page → IsStill (found_in self.old.store.states) self.old.store.words moments.list page }
+        ensures { IsGrantedInPhase true self.old result self.new (λ n. RetracesPageBeside page moments.list self.old n self.new) }
+    {
+        if !self.is_marking {
+            return Err(Refusal::WrongPhase);
+        }
+        if !self
+            .objects
+            .retrace_page_beside(&mut self.marker, page, moments)
+        {
+            return Ok(0);
+        }
         Ok(1)
     }
 

@@ -1,14 +1,14 @@
 //! What the marker does with the objects: it reads them by the map and the memory.
-ghost use Rattle.std.specs.Prelude.{◌≡◌, ℕ, ◌<◌, ◌≤◌, ◌↔◌, [], ◌∷◌, true, length, MatchOption};
+ghost use Rattle.std.specs.Prelude.{◌≡◌, ℕ, ◌<◌, ◌≤◌, ◌↔◌, [], ◌∷◌, true, false, length, MatchOption};
 ghost use Rattle.block_map.specs.FoundIn.{found_in, IsLawful};
 ghost use Rattle.marker.specs.Marking.{IsEmpty, IsClean, StaysDirty};
 ghost use Rattle.marker.specs.Invariant.{AreRootsMarked};
 ghost use Rattle.pages.specs.Reads.{AreMoments};
 ghost use Rattle.marker.specs.Growth.{MarksWords, Traces};
 ghost use Rattle.marker.specs.Beside.{AreBeside, IsStill, TracesIn};
-ghost use Rattle.words.specs.Bits.{IsFirstFrom};
+ghost use Rattle.words.specs.Bits.{Has, IsFirstFrom};
 ghost use Rattle.marker.specs.Entries.{Takes, TakesOff};
-ghost use Rattle.marker.specs.Retracing.{Retraces};
+ghost use Rattle.marker.specs.Retracing.{Retraces, RetracesLowest};
 
 use super::ObjectSpace;
 use marker::{Marked, Marker};
@@ -69,7 +69,7 @@ impl ObjectSpace {
         requires moments { AreMoments self.now.words moments.list }
         requires beside { AreBeside (found_in self.now.states) marker.old.dirty moments.list }
         requires still { (p : ℕ) → IsFirstFrom marker.old.dirty 0 p → IsStill (found_in self.now.states) self.now.words moments.list p }
-        ensures page { MatchOption result (IsClean marker.old × (marker.new ≡ marker.old)) (λ p. Retraces (found_in self.now.states) self.now.words p marker.old marker.new) }
+        ensures page { MatchOption result (IsClean marker.old × (marker.new ≡ marker.old)) (λ p. RetracesLowest (found_in self.now.states) self.now.words p marker.old marker.new) }
         ensures traces { TracesIn (found_in self.now.states) moments.list marker.old marker.new }
         ensures lawful { IsLawful self.now.states }
     {
@@ -78,10 +78,27 @@ impl ObjectSpace {
         marker.retrace(&self.map, &mut beside)
     }
 
+    /// Reads this page again, on which nobody writes, if it is dirty, and answers whether it was, while others write on other dirty
+    /// pages: the memory is read at these moments.
+    pub fn retrace_page_beside(&self, marker: &mut Marker, page: PageNo, moments: Moments) -> bool
+        requires pages { length marker.old.dirty ≡ length self.now.states }
+        requires moments { AreMoments self.now.words moments.list }
+        requires beside { AreBeside (found_in self.now.states) marker.old.dirty moments.list }
+        requires still { Has marker.old.dirty page → IsStill (found_in self.now.states) self.now.words moments.list page }
+        ensures page { result ≡ true → Retraces (found_in self.now.states) self.now.words page marker.old marker.new }
+        ensures clean { result ≡ false → (Has marker.old.dirty page → ⊥) × (marker.new ≡ marker.old) }
+        ensures traces { TracesIn (found_in self.now.states) moments.list marker.old marker.new }
+        ensures lawful { IsLawful self.now.states }
+    {
+        self.map.laws();
+        let mut beside = Reader::beside(&self.memory, moments);
+        marker.retrace_page(&self.map, &mut beside, page)
+    }
+
     /// Reads the lowest dirty page again.
     pub fn retrace(&self, marker: &mut Marker) -> Option<PageNo>
         requires pages { length marker.old.dirty ≡ length self.now.states }
-        ensures page { MatchOption result (IsClean marker.old × (marker.new ≡ marker.old)) (λ p. Retraces (found_in self.now.states) self.now.words p marker.old marker.new) }
+        ensures page { MatchOption result (IsClean marker.old × (marker.new ≡ marker.old)) (λ p. RetracesLowest (found_in self.now.states) self.now.words p marker.old marker.new) }
         ensures traces { Traces (found_in self.now.states) self.now.words [] marker.old marker.new }
         ensures lawful { IsLawful self.now.states }
     {
