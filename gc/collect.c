@@ -26,14 +26,13 @@ void mpgc_end_collection(bool is_full, double start)
     mpgc_count_collection(is_full, start);
 }
 
-// Roots that don't fit the stack are marked meanwhile. The words that are read are counted, to pace by.
+// Roots that don't fit the stack are marked meanwhile.
 static void end_with_roots(void)
 {
-    uint64_t count, read = 0;
+    uint64_t count;
+    mpgc_figures.marked = 0;
     mpgc_read_roots();
-    GRANTED(mpheap_roots(&mpgc.heap));
-    GRANTED(mpheap_mark(&mpgc.heap, UINT64_MAX, &read));
-    mpgc_figures.marked = read;
+    mpgc_mark_words();
     mpgc_end_marks();
     GRANTED(mpheap_finish(&mpgc.heap, &count));
 }

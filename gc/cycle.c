@@ -6,12 +6,12 @@
 //   "Calls .. never from a signal handler that     signals are blocked in each step (signals.c)
 //   interrupted one of them"
 //   "the address was told by mpheap_written        after mpheap_begin, which cleans every page, `mpgc_tell_open`; before so many
-//   first, after the last mpheap_begin,            mpheap_retrace `mpgc_close_lowest`; after mpheap_finish the layer's own object is
+//   first, after the last mpheap_begin,            retraces `mpgc_close_lowest`; after mpheap_finish the layer's own object is
 //   mpheap_retrace, mpheap_finish .."              freed (spare.c): each before the program runs on
 //   the roots are as the program has them          at mpheap_finish: they are read just before, with nothing between. At mpheap_roots
 //                                                  they needn't be.
-//   "while the call runs, no word .. is written    mpheap_mark_beside and mpheap_retrace_beside are called where the collector has a thread
-//   but on pages that were dirty when it began"    of its own: argued at the head of protection.c
+//   "while the call runs, no word .. is written    mpheap_mark_beside, mpheap_retrace_beside and mpheap_retrace_page_beside are called
+//   but on pages that were dirty when it began"    where the collector has a thread of its own: argued at the head of protection.c
 // Counted under the rest.
 #include "layer.h"
 
@@ -42,10 +42,11 @@ static void end(void)
 
 // Counted under the collector's thread.
 // A piece that reads words of the program, or cleans pages, is done while no other thread runs, but for those that have calls for it, where
-// the collector has a thread of its own. Pages to which the kernel may be writing aren't read again beside it.
+// the collector has a thread of its own. Pages to which the kernel may be writing aren't read again beside it: so where no other page is
+// open, the lowest dirty ones are read in a stop.
 static bool needs_stop(enum piece piece)
 {
-    bool goes_beside = piece == MARK || (piece == REREAD && !mpgc_is_pinned());
+    bool goes_beside = piece == MARK || (piece == REREAD && (mpgc_is_one_to_close() || !mpgc_is_pinned()));
     return piece >= BEGIN && !(goes_beside && mpgc_is_beside());
 }
 
@@ -62,8 +63,19 @@ static uint64_t mark(uint64_t words)
     return read;
 }
 
+// Closed pages are read again by their numbers. Answers how many of them were dirty.
+static uint64_t reread_pages(struct pages pages)
+{
+    uint64_t read = 0, count;
+    for (size_t page = pages.from; page < pages.to; page++) {
+        GRANTED(mpheap_retrace_page_beside(&mpgc.heap, (uint32_t)page, &asked, &count));
+        read += count;
+    }
+    return read;
+}
+
 // Whether there was a dirty page.
-static uint64_t reread_one(void)
+static uint64_t reread_lowest(void)
 {
     uint64_t count;
     if (mpgc_world_is_stopped())
@@ -74,14 +86,19 @@ static uint64_t reread_one(void)
 }
 
 // Counted under the rest.
-// The lowest open pages are closed, and as many dirty ones read again; or some, where none is open: all before the lock is given back.
-// Answers how many were read.
+// The lowest open pages are closed, and these read again; or some dirty ones, where none is to be closed: all before the lock is given
+// back. Answers how many were read.
 static uint64_t reread(void)
 {
     enum { STOPPED = 16, BESIDE = 8 };
+    size_t most = mpgc_world_is_stopped() ? STOPPED : BESIDE;
     uint64_t read = 0;
-    for (size_t pages = mpgc_close_lowest(mpgc_world_is_stopped() ? STOPPED : BESIDE); pages > 0; pages--) read += reread_one();
-    mpgc_tell_pinned();
+    if (mpgc_is_one_to_close()) {
+        read = reread_pages(mpgc_close_lowest(most));
+    } else {
+        for (; most > 0; most--) read += reread_lowest();
+        mpgc_tell_pinned();
+    }
     mpgc_figures.retraces += read;
     return read;
 }
@@ -92,7 +109,7 @@ static void start(void)
     mpgc_start_closing();
 }
 
-// Answers how many words were read, or whether there was something to sweep, or is more to close.
+// Answers how many words were read, or whether there was something to sweep, or is more to close or of described objects.
 static uint64_t do_piece(enum piece piece, uint64_t words)
 {
     enum { SWEPT = 8 };
@@ -104,6 +121,7 @@ static uint64_t do_piece(enum piece piece, uint64_t words)
     case ROOTS: read_roots(); break;
     case MARK: return mark(words);
     case REREAD: return reread();
+    case DESCRIBED: return mpgc_read_some_described();
     case END: end(); break;
     case NO_PIECE: break;
     }

@@ -2,75 +2,43 @@
 // Trusted, not proved.
 //
 // To the core they are pointer-free, so it reads none of their words. What it owes it: as roots.c, each word by which the program may still
-// reach an object is a root at a cycle's end. It pays at that end, with no other thread running (ending.c): each described object that is
-// marked is read, once, until no further one is marked; and so are those that are marked when roots are read earlier. What a descriptor
-// leaves out is weak, as the program asked. Which descriptor a request has, and whether it needs one, is said in names/kinds.c.
+// reach an object is a root at a cycle's end. It pays where it reads one: each word that points is made a root, and each of these that is a
+// described object will be read too. That all are read that are marked is readings.c's. What a descriptor leaves out is weak, as the program
+// asked. Which descriptor a request has, and whether it needs one, is said in names/kinds.c.
 // Counted under roots, links, finalizers and kinds.
 #include "layer.h"
-#include <stdlib.h>
 #include <string.h>
 
-// Its number hides its base.
-struct described {
-    struct entry entry;
-    struct described *next_to_read, *older, *newer;
-    GC_word descriptor;
-    size_t step;   // bytes to which the descriptor applies, again and again
-    size_t bytes;  // of all of these
-    int kind;
-    bool is_read;
-};
-
-static struct table all;
-static struct described *newest, *oldest, *to_read;
-static struct entry *to_free;
 static void *procs[MPGC_PROCS];
 
 // ---- The table ----
 
 // To the core a described object is pointer-free: so most words are no base of one, which their pages tell.
-static struct described *at_base(uintptr_t base)
-{
-    return mpgc_kind_at(base) == POINTER_FREE ? (struct described *)*mpgc_place(&all, ~base) : NULL;
-}
+static struct described *at_base(uintptr_t base) { return mpgc_kind_at(base) == POINTER_FREE ? mpgc_described_at(base) : NULL; }
 
-static uintptr_t base_of(const struct described *one) { return ~one->entry.number; }
+static uintptr_t base_of(const struct described *one) { return ~one->hidden; }
 
 void mpgc_forget_described(uintptr_t base)
 {
     struct described *one = at_base(base);
-    if (!one) return;
-    *(one->newer ? &one->newer->older : &newest) = one->older;
-    *(one->older ? &one->older->newer : &oldest) = one->newer;
-    mpgc_push(&to_free, mpgc_take(&all, mpgc_place(&all, ~base)));
+    if (one) mpgc_drop_record(one);
 }
 
-size_t mpgc_count_described(void) { return all.count; }
+size_t mpgc_count_described(void) { return mpgc_records.count - mpgc_records.gone; }
 
 int mpgc_described_kind(uintptr_t base)
 {
     mpgc_lock();
     const struct described *one = at_base(base);
+    int kind = one ? one->kind : -1;
     mpgc_unlock();
-    return one ? one->kind : -1;
-}
-
-static void write_down(const struct described *object)
-{
-    mpgc_free_all(&to_free);
-    struct described *made = malloc(sizeof *made);
-    if (!made) mpgc_stop("no memory for a described object");
-    *made = *object;
-    mpgc_put(&all, &made->entry);
-    made->older = newest;
-    *(newest ? &newest->newer : &oldest) = made;
-    newest = made;
+    return kind;
 }
 
 void mpgc_describe(void *object, size_t step, size_t bytes, GC_word descriptor, int kind)
 {
     mpgc_lock();
-    write_down(&(struct described){ { NULL, GC_HIDE_POINTER(object) }, .descriptor = descriptor, .step = step, .bytes = bytes, .kind = kind });
+    mpgc_add_record(&(struct described){ GC_HIDE_POINTER(object), .descriptor = descriptor, .step = step, .bytes = bytes, .kind = kind });
     mpgc_unlock();
 }
 
@@ -81,19 +49,31 @@ void mpgc_set_proc(unsigned number, void *marks)
 
 // ---- Reading ----
 
-static void will_be_read(struct described *one)
+static uint32_t reading;  // each is read once in a reading
+static uint32_t to_read;  // the number of the record of the first that will be read, or 0
+
+void mpgc_begin_reading(void)
 {
-    one->is_read = true;
+    reading++;
+    to_read = 0;
+}
+
+bool mpgc_was_read(const struct described *one) { return one->reading == reading; }
+
+void mpgc_will_be_read(struct described *one)
+{
+    one->reading = reading;
     one->next_to_read = to_read;
-    to_read = one;
+    to_read = (uint32_t)(one - mpgc_records.at) + 1;
 }
 
 // The word is a root. If it is a described object it will be read.
 static void push(uintptr_t word)
 {
-    mpgc_mark_from(word);
+    if (!mpgc_takes_roots() || !mpgc_is_inside(word)) return;
     struct described *one = at_base(word);
-    if (one && !one->is_read) will_be_read(one);
+    if (one && !mpgc_was_read(one)) mpgc_will_be_read(one);
+    if (!mpgc_is_marked_here(word)) mpgc_mark_from(word);
 }
 
 SHOWN void *GC_mark_and_push(void *object, void *top, void *limit, void **from);
@@ -158,65 +138,18 @@ static void read_one(const struct described *one)
     for (size_t at = 0; at + one->step <= one->bytes; at += one->step) push_by((GC_word *)(base_of(one) + at), one->descriptor);
 }
 
-// It is read, if it is marked and wasn't yet, with those that it leads to without others between. Answers whether it was.
-static bool read_from(struct described *one)
+// Those that will be are read, with what they lead to without others between: of about so many words. Answers whether
+// that was all.
+bool mpgc_read_those(uint64_t *left)
 {
-    if (one->is_read || !mpgc_is_marked(base_of(one))) return false;
-    will_be_read(one);
-    for (; (one = to_read);) {
+    while (to_read != 0 && *left > 0) {
+        const struct described *one = &mpgc_records.at[to_read - 1];
+        uint64_t words = 1 + one->bytes / WORD;
         to_read = one->next_to_read;
-        read_one(one);
+        *left -= words < *left ? words : *left;
+        if (one->hidden != 0) read_one(one);
     }
-    return true;
-}
-
-// Those that are marked and weren't read yet are read, with all that these lead to: the newest first, or the oldest, since chains mostly lead
-// from the one to the other. What was read may lead to one that isn't marked yet: where such ones come, all is marked that was read of, and
-// they are looked at again. That is done at the first, or, where it was for nothing, when twice as many have come. Answers whether any were read.
-bool mpgc_read_described(bool newest_first)
-{
-    bool has_read = false, is_left = false;
-    size_t passed = 0, patience = 0;
-    struct described *first = NULL, *last = NULL;  // of those that came; and the last that is looked at again
-    for (struct described *one = newest_first ? newest : oldest; one;) {
-        if (read_from(one)) {
-            has_read = is_left = true;
-            if (last) patience = 0;
-        } else if (is_left && !one->is_read && !first) {
-            first = one;
-        }
-        if (one == last) last = NULL;
-        bool is_enough = first && passed++ >= patience;
-        struct described *next = newest_first ? one->older : one->newer;
-        if (is_enough) {
-            mpgc_mark_words();
-            is_left = false;
-            passed = 0;
-            patience = 2 * patience + 1;
-            last = one;
-            next = first;
-            first = NULL;
-        }
-        one = next;
-    }
-    if (is_left) mpgc_mark_words();
-    return has_read;
-}
-
-// Roots are read: none of them was, in this stop.
-void mpgc_reread_described(void)
-{
-    for (struct described *one = newest; one; one = one->older) one->is_read = false;
-    for (struct described *one = newest; one; one = one->older) (void)read_from(one);
-}
-
-// All is marked that stays.
-void mpgc_drop_described(void)
-{
-    for (struct described *one = newest, *older; one; one = older) {
-        older = one->older;
-        if (!mpgc_is_marked(base_of(one))) mpgc_forget_described(base_of(one));
-    }
+    return to_read == 0;
 }
 
 // All that the object points to is a root, but it itself only if it may be.

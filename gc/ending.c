@@ -12,15 +12,18 @@
 #include "layer.h"
 
 static bool is_ending;
+static bool has_marked_all;  // that was pushed so far
 
 bool mpgc_is_marked(uintptr_t base)
 {
-    bool answer;
-    CALL(answer, mpheap_is_marked(&mpgc.heap, base));
+    mpgc_lock();
+    bool answer = mpgc_is_marked_here(base);
+    mpgc_unlock();
     return answer;
 }
 
-// All that the stack holds and dirty pages have is marked, with all that it leads to.
+// All that the stack holds and dirty pages have is marked, with all that it leads to. The words that are read are counted, to pace by: of a
+// dirty page all, since it has objects that found no room on the core's mark stack, but for the few that the program has written last.
 void mpgc_mark_words(void)
 {
     uint64_t read, was_dirty = 1;
@@ -28,17 +31,18 @@ void mpgc_mark_words(void)
     while (was_dirty == 1) {
         GRANTED(mpheap_mark(&mpgc.heap, UINT64_MAX, &read));
         GRANTED(mpheap_retrace(&mpgc.heap, &was_dirty));
-        mpgc_figures.marked += read;
+        mpgc_figures.marked += read + was_dirty * (PAGE / WORD);
     }
 }
 
 // The same, with what the words of described objects lead to. Then the stack is empty.
 void mpgc_mark_all(void)
 {
-    if (!is_ending) return;
+    if (!is_ending || (has_marked_all && !mpgc_has_pushed())) return;
     mpgc_mark_words();
     for (bool newest_first = true; mpgc_read_described(newest_first); newest_first = !newest_first) { }
     mpgc_empty_stack();
+    has_marked_all = true;
 }
 
 // The roots are on the stack, or marked.
@@ -46,7 +50,9 @@ void mpgc_end_marks(void)
 {
     if (mpgc_count_links() == 0 && mpgc_count_described() == 0 && !mpgc_has_to_find()) return;
     is_ending = true;
-    mpgc_take_roots(true);
+    has_marked_all = false;
+    mpgc_take_roots(true, true);
+    mpgc_begin_reading();
     mpgc_mark_all();
     mpgc_mark_toggled();
     mpgc_mark_all();
@@ -55,6 +61,6 @@ void mpgc_end_marks(void)
     mpgc_mark_all();
     mpgc_decide_links(true);
     mpgc_drop_described();
-    mpgc_take_roots(false);
+    mpgc_take_roots(false, false);
     is_ending = false;
 }

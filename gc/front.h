@@ -32,7 +32,7 @@
 enum page_kind { FRESH, ORDINARY, POINTER_FREE, GIVEN_BACK };
 
 // The pieces of a cycle, of which names/steps.c says which is next.
-enum piece { NO_PIECE, SWEEP, START, CLOSE, BEGIN, ROOTS, MARK, REREAD, END };
+enum piece { NO_PIECE, SWEEP, START, CLOSE, BEGIN, ROOTS, MARK, REREAD, DESCRIBED, END };
 
 #include "names/asked.h"
 
@@ -101,13 +101,14 @@ HIDDEN size_t mpgc_free_run(size_t from, size_t *first);
 HIDDEN size_t mpgc_words_in_runs(void);
 
 // And these. Whether a cycle marks, there was ever a second thread, every other one has ended, and the program has ever said where a thread's
-// stack ends; the links that stand; this thread, if it is known, and its stack, as the program or the C library says where it ends.
+// stack ends; the links that stand, and the described objects; this thread, if it is known, and its stack, as the program or the C library says where it ends.
 HIDDEN bool mpgc_is_marking(void);
 HIDDEN bool mpgc_is_threaded(void);
 HIDDEN bool mpgc_is_last_thread(void);
 HIDDEN bool mpgc_has_lock(void);
 HIDDEN bool mpgc_has_own_stacks(void);
 HIDDEN size_t mpgc_count_links(void);
+HIDDEN size_t mpgc_count_described(void);
 HIDDEN void *mpgc_this_thread(void);
 HIDDEN char *mpgc_stack_bottom(void);
 HIDDEN void mpgc_find_stack(const char **low, const char **bottom);

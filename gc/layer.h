@@ -1,7 +1,7 @@
 // What the audited files of libmpgc know of each other. x86-64, Linux, the GNU C library. Trusted, and not proved.
 //
 // Below them stands the proved heap of mpheap_c, above them a C program that knows bdwgc's gc.h, and may do what it likes. The proofs hold
-// for the program as far as these files keep what mpheap.h asks of a caller. They alone could lose an object or break memory: 2,344 lines
+// for the program as far as these files keep what mpheap.h asks of a caller. They alone could lose an object or break memory: 2,547 lines
 // of code in this folder, without blank ones and comments. Why names/ and kernel/ can't is said in front.h. This is all that they owe, in
 // the order in which they are best read, and the head of each says by which lines it pays:
 //
@@ -20,8 +20,9 @@
 //   locals.c               of each thread
 //   collect.c cycle.c      the core's calls in an order that keeps the last three
 //   ending.c described.c   of objects that the core doesn't read, each word that points is a root at a cycle's end
+//   readings.c
 //   links.c                the layer's own writes to words of the program: in kept objects alone
-//   table.c                what links.c and described.c know, so that it keeps nothing
+//   table.c records.c      what links.c and described.c know, so that it keeps nothing
 //
 // "Each out parameter points to a number of its own, outside of every heap": they are locals and, for runs.c, the layer's own. "malloc,
 // realloc and free are those of one allocator": the core asks for memory in start.c alone, and gives none back.
@@ -85,6 +86,7 @@ struct layer {
     size_t size;                       // those that were ever used, of which the program is told
     uint64_t ended;                    // so many collections have
     uint8_t kind[MAX_PAGES];           // enum page_kind
+    uint8_t granules[MAX_PAGES];       // of each object on the page, where the last one there was of a run; else 0: a figure alone
     volatile uint8_t is_closed[MAX_PAGES];
     volatile uint8_t is_noted[MAX_PAGES];
     uint16_t pins[MAX_PAGES];          // so many threads have the kernel write there: it makes no fault, so the page stays open, and dirty
@@ -204,6 +206,15 @@ HIDDEN int mpgc_set_own_key(pthread_key_t key, const void *value);
 HIDDEN void mpgc_drop_keys(void);
 
 // Counted under roots, links, finalizers and kinds.
+// Where the lock is held: whether the object is marked.
+static inline bool mpgc_is_marked_here(uintptr_t base)
+{
+    mpgc_inner_call_begins();
+    bool answer = mpheap_is_marked(&mpgc.heap, base);
+    mpgc_inner_call_ends();
+    return answer;
+}
+
 // table.c
 struct entry { struct entry *next; uintptr_t number; };
 struct table { struct entry **chains; size_t count, room; };
@@ -213,15 +224,42 @@ HIDDEN struct entry *mpgc_take(struct table *table, struct entry **at);
 HIDDEN void mpgc_push(struct entry **list, struct entry *one);
 HIDDEN struct entry *mpgc_pop(struct entry **list);
 HIDDEN void mpgc_free_all(struct entry **list);
+HIDDEN void mpgc_count_entry(void);
 
-// ending.c and described.c
+// records.c. A described object, whose words are read as its descriptor says.
+struct described {
+    uintptr_t hidden;       // its base; 0 where it was freed
+    GC_word descriptor;
+    size_t step;            // bytes to which the descriptor applies, again and again
+    size_t bytes;           // of all of these
+    int kind;
+    uint32_t reading;       // in which it was read last, or will be
+    uint32_t next_to_read;
+};
+struct records {
+    struct described *at;
+    size_t count, room, gone;
+    unsigned long moves;    // so often they got other places
+};
+HIDDEN extern struct records mpgc_records;
+HIDDEN struct described *mpgc_described_at(uintptr_t base);
+HIDDEN void mpgc_add_record(const struct described *one);
+HIDDEN void mpgc_drop_record(struct described *one);
+HIDDEN void mpgc_keep_records(bool (*stays)(const struct described *one));
+
+// described.c
+HIDDEN void mpgc_forget_described(uintptr_t base);
+HIDDEN void mpgc_begin_reading(void);
+HIDDEN bool mpgc_was_read(const struct described *one);
+HIDDEN void mpgc_will_be_read(struct described *one);
+HIDDEN bool mpgc_read_those(uint64_t *left);
+
+// ending.c and readings.c
 HIDDEN void mpgc_end_marks(void);
 HIDDEN void mpgc_mark_words(void);
 HIDDEN bool mpgc_read_described(bool newest_first);
-HIDDEN void mpgc_reread_described(void);
+HIDDEN bool mpgc_read_some_described(void);
 HIDDEN void mpgc_drop_described(void);
-HIDDEN void mpgc_forget_described(uintptr_t base);
-HIDDEN size_t mpgc_count_described(void);
 
 // Counted under the rest.
 // pages.c
@@ -235,7 +273,8 @@ HIDDEN void mpgc_holds_pointer_free(size_t page);
 HIDDEN void mpgc_start_closing(void);
 HIDDEN bool mpgc_close_some(void);
 HIDDEN void mpgc_tell_open(void);
-HIDDEN size_t mpgc_close_lowest(size_t most);
+HIDDEN bool mpgc_is_one_to_close(void);
+HIDDEN struct pages mpgc_close_lowest(size_t most);
 HIDDEN bool mpgc_is_pinned(void);
 HIDDEN void mpgc_tell_pinned(void);
 HIDDEN void mpgc_drop_pins(struct thread *thread);
@@ -251,8 +290,10 @@ HIDDEN void mpgc_restore_signals(const sigset_t *old);
 // Counted under roots, links, finalizers and kinds.
 // roots.c
 HIDDEN void mpgc_read_roots(void);
-HIDDEN void mpgc_take_roots(bool on);
+HIDDEN void mpgc_take_roots(bool on, bool is_end);
+HIDDEN bool mpgc_takes_roots(void);
 HIDDEN void mpgc_empty_stack(void);
+HIDDEN bool mpgc_has_pushed(void);
 HIDDEN bool mpgc_with_registers(bool (*work)(void *), void *data);
 HIDDEN bool mpgc_from_here(bool (*work)(void *), void *data);
 

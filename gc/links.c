@@ -26,7 +26,9 @@ static void **word_of(const struct entry *one) { return (void **)~(one->number |
 // Those of which `goes` says so are put on the list.
 static void move_those(bool (*goes)(const struct entry *one), struct entry **list)
 {
+    enum { AHEAD = 12 };  // so many are fetched ahead, since they lie all over the memory
     for (size_t k = 0; links.count > 0 && k < links.room; k++) {
+        if (k + AHEAD < links.room) __builtin_prefetch(links.chains[k + AHEAD]);
         for (struct entry **at = &links.chains[k]; *at;) {
             if (goes(*at))
                 mpgc_push(list, mpgc_take(&links, at));
@@ -36,10 +38,12 @@ static void move_those(bool (*goes)(const struct entry *one), struct entry **lis
     }
 }
 
-static bool is_unmarked(const struct entry *one) { return !mpgc_is_marked(~((const struct link *)one)->object); }
+// Of a short one it was decided before, and what was marked then is marked.
+static bool is_unmarked(const struct entry *one) { return !mpgc_is_marked_here(~((const struct link *)one)->object); }
 static bool is_short_unmarked(const struct entry *one) { return (one->number & 1) && is_unmarked(one); }
+static bool is_long_unmarked(const struct entry *one) { return !(one->number & 1) && is_unmarked(one); }
 
-void mpgc_decide_links(bool is_long) { move_those(is_long ? is_unmarked : is_short_unmarked, &to_clear); }
+void mpgc_decide_links(bool is_long) { move_those(is_long ? is_long_unmarked : is_short_unmarked, &to_clear); }
 
 static bool lies_in_what_is_gone(const struct entry *one)
 {

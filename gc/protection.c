@@ -4,7 +4,8 @@
 //
 //   "if the object is not pointer-free and the word lies in the heap's range of addresses, the address was told by mpheap_written first,
 //   after the last mpheap_begin, mpheap_retrace, mpheap_finish or mpheap_collect"
-//                                                  mpheap_written, clause TellsWritten; mpheap_retrace, clauses Retraces.lowest and .others
+//                                                  mpheap_written, clause TellsWritten; mpheap_retrace, clauses RetracesLowest.lowest and
+//                                                  Retraces.others; mpheap_retrace_page_beside, clauses ReadsThisPage and Retraces.others
 //
 // It pays by one rule, true whenever the program runs while a cycle marks:
 //
@@ -13,14 +14,15 @@
 //   - A write to a closed page faults; `mpgc_let_write` tells the page (or notes it, under a call of the core), and only then opens it.
 //   - `mpheap_begin` cleans every page. Most were closed before it, a few at a time; `mpgc_tell_open` tells the others of ordinary
 //     objects, before the program runs on. So no page is closed in the stop of a beginning.
-//   - `mpheap_retrace` cleans the lowest dirty page and no other. Told pages are dirty: so where the lowest open pages of ordinary
-//     objects are closed first, by `mpgc_close_lowest`, as many dirty ones lie below all that are open, and as many retraces clean
-//     none of these. The program doesn't run between them.
+//   - `mpheap_retrace_page_beside` cleans the page that it is given and no other. It is given those that `mpgc_close_lowest` has just
+//     closed, and the program doesn't run between.
+//   - `mpheap_retrace` and `mpheap_retrace_beside` clean the lowest dirty page and no other. They are called where no open page is to be
+//     closed (`mpgc_is_one_to_close`): then that page is closed, holds no ordinary object, or is pinned.
 //   - A page that comes to hold ordinary objects while it is open is told then (pages.c).
 //   - A page that the core itself writes to under a call faults too. It is noted, and told when the call has returned, before the
 //     program writes there.
 //   - The kernel makes no fault. Pages to which it writes for a thread are pinned meanwhile: told and open, not closed, told when a cycle
-//     has begun as all open ones are, and anew behind retraces (`mpgc_tell_pinned`).
+//     has begun as all open ones are, and anew behind retraces that may have cleaned them (`mpgc_tell_pinned`).
 //
 // Why it holds beside several threads. Who tells, opens, closes or cleans a page has the lock, so these come one after the other. While a
 // cycle marks, pages are closed and cleaned only while no other thread runs (world.c), but for those of a step beside threads, below. Where two threads fault on one page, the first to
@@ -35,7 +37,8 @@
 //
 // Why it holds beside a step, where the collector has a thread of its own (names/collector.c), and the others run while it reads. Owed is
 // besides, of mpheap.h, "while the call runs, no word of an object that is not pointer-free is written but on pages that were dirty when it
-// began", and of mpheap_retrace_beside, "on the page that it reads, the lowest dirty one, nobody writes" such a word.
+// began", of mpheap_retrace_beside, "on the page that it reads, the lowest dirty one, nobody writes" such a word, and of
+// mpheap_retrace_page_beside, of its page, "on it nobody writes such a word".
 //
 //   1. A step has the lock from before its first call until behind its last. Who tells, opens, closes or cleans a page, allocates, frees or
 //      sweeps has it too: so none of these falls into a step.
@@ -44,9 +47,9 @@
 //      objects is dirty: it was told, and only closed pages were cleaned since; pinned ones may be cleaned in a stop, and are told anew there.
 //   3. While it runs, a write to a closed page faults before anything is written, and its handler waits for the lock, behind this step and no
 //      other (mpgc_give_way, lock.c). A write to an open page is done at once, and lies on a dirty page. That is the first thing owed.
-//   4. To read pages again, a run of the lowest open ones is closed and as many of the lowest dirty ones are read before the lock is given
-//      back. No open page of ordinary objects lies below, so these are closed, or hold none. A pinned page might lie there: so while there is
-//      one, pages are read again in a stop. That is the second thing.
+//   4. To read pages again, a run of the lowest open ones is closed, none of them pinned, and just these are read before the lock is given
+//      back. Where there is none, the lowest dirty ones are read, each of which is closed, holds no ordinary object, or is pinned: so while
+//      a page is pinned this is done in a stop. That is the second thing.
 //   5. Before mprotect has closed a page each processor that could write there has dropped its translation, and so has made its stores there:
 //      the step sees them. A thread whose store comes later faults. A store is done again when its thread goes on, and may fault again.
 //   6. A word is read by one aligned load of 8 bytes, once (tests/gc/loads.sh looks at the code), and such a load isn't torn: it sees what
@@ -60,8 +63,8 @@
 //
 // Of this are proved, below: what is owed (the clauses above), and that a program which pays it loses nothing, whatever it writes
 // (heap_core, the laws of direct writes); and that a step beside writers keeps the marks' invariant whatever of the moments' words it reads,
-// and counts as lines before which, or behind which, these writes were made (MarksBeside, RetracesBeside, BesideIsLines,
-// WrittenBesideIsWrittenAfter); and that a write beside one that allocates, frees, sweeps, tells or looks is as good behind it, if that call
+// and counts as lines before which, or behind which, these writes were made (MarksBeside, RetracesBeside, RetracesPageBeside,
+// BesideIsLines, WrittenBesideIsWrittenAfter); and that a write beside one that allocates, frees, sweeps, tells or looks is as good behind it, if that call
 // touches no word of an object that the program has (WrittenBesideCallsIsWrittenAfter). That it touches none is argued here, as is all that
 // the kernel and the processor do (5 and 6 of them).
 //
@@ -197,7 +200,7 @@ static size_t close_run(size_t page, size_t most)
 void mpgc_start_closing(void)
 {
     mpgc_take_faults();
-    changes = 0;
+    changes = mpgc.is_closed[0];
     for (size_t page = 1; page < mpgc.size; page++) changes += mpgc.is_closed[page] != mpgc.is_closed[page - 1];
     is_closing = true;
     closing = 0;
@@ -229,57 +232,57 @@ void mpgc_tell_open(void)
     lowest_open = 0;
 }
 
-// Does the work with each pinned page of ordinary objects that lies below the end, as often as it is pinned. Answers how many are pinned
-// once: not all that there are, but no page twice.
-static size_t each_pinned(void (*work)(size_t page), size_t end)
+// Whether an open page is to be closed, under blocked signals.
+bool mpgc_is_one_to_close(void)
 {
-    size_t once = 0;
+    size_t page = lowest_open;
+    while (page < mpgc.size && !is_to_close(page)) page++;
+    lowest_open = page;
+    return page < mpgc.size;
+}
+
+// Closes the lowest run of open pages, of at most so many, under blocked signals, and answers which were closed: none where none is to be,
+// or no more may.
+struct pages mpgc_close_lowest(size_t most)
+{
+    bool is_one = mpgc_is_one_to_close() && !is_crowded();
+    size_t page = lowest_open;
+    if (is_one) lowest_open = close_run(page, most);
+    return (struct pages){ page, lowest_open };
+}
+
+// Does the work, if there is one, with each page of ordinary objects that stays open for the kernel. Answers how many there are: a page
+// counts as often as it is pinned.
+static size_t each_pinned(void (*work)(size_t page))
+{
+    size_t count = 0;
     for (const struct thread *one = mpgc.threads; one; one = one->next) {
         for (const struct pages *range = one->pinned; range < one->pinned + one->pins; range++) {
-            for (size_t page = range->from; page < range->to && page < end; page++) {
+            for (size_t page = range->from; page < range->to; page++) {
                 if (!is_open_ordinary(page)) continue;
                 if (work) work(page);
-                once += mpgc.pins[page] == 1;
+                count++;
             }
         }
     }
-    return once;
-}
-
-// Closes the lowest run of open pages, of at most so many, under blocked signals. Answers how often mpheap_retrace may be called then: as
-// often as pages were closed, or as one likes where none was open, and for each pinned page below, which is dirty too, and read again with
-// them. Where no more may be closed, it may not be called.
-size_t mpgc_close_lowest(size_t most)
-{
-    size_t page = lowest_open;
-    if (is_crowded()) return 0;
-    while (page < mpgc.size && !is_to_close(page)) page++;
-    bool is_one = page < mpgc.size;
-    lowest_open = is_one ? close_run(page, most) : page;
-    return (is_one ? lowest_open - page : most) + each_pinned(NULL, lowest_open);
+    return count;
 }
 
 // Counted under the collector's thread.
 // Whether a page of ordinary objects stays open for the kernel.
-bool mpgc_is_pinned(void)
-{
-    for (const struct thread *one = mpgc.threads; one; one = one->next)
-        for (const struct pages *range = one->pinned; range < one->pinned + one->pins; range++)
-            for (size_t page = range->from; page < range->to; page++)
-                if (is_open_ordinary(page)) return true;
-    return false;
-}
+bool mpgc_is_pinned(void) { return each_pinned(NULL) > 0; }
 
 // Counted under the rest.
-// To be called behind these retraces, before another thread runs: the pages that they have cleaned may be some that stayed open.
-void mpgc_tell_pinned(void) { (void)each_pinned(tell_now, mpgc.size); }
+// To be called behind retraces of the lowest pages, before another thread runs: they may have cleaned some that stayed open.
+void mpgc_tell_pinned(void) { (void)each_pinned(tell_now); }
 
 // No cycle marks, and none begins to.
 void mpgc_stop_closing(void) { is_closing = false; }
 
-// The lowest page that is closed, or the heap's end.
+// The lowest page that is closed, or the heap's end. Where nothing has changed since all were open none is.
 static size_t lowest_closed(void)
 {
+    if (changes == 0) return mpgc.size;
     size_t page = next_set(mpgc.is_closed, 0, mpgc.size);
     if (page == mpgc.size) changes = 0;
     return page;

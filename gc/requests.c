@@ -42,6 +42,7 @@ static uint64_t ask(size_t words, enum page_kind kind)
     CALL(status, kind == ORDINARY ? mpheap_alloc_base(&mpgc.heap, mpgc.slot, INTO, words, &base)
                                   : mpheap_alloc_pointer_free_base(&mpgc.heap, mpgc.slot, INTO, words, &base));
     if (status != MPHEAP_OK) return 0;
+    mpgc.granules[mpgc_page_of(base)] = 0;
     bool is_known = mpgc.kind[mpgc_page_of(base)] == kind && words <= PAGE / WORD;
     if (LIKELY(is_known) || mpgc_learn(base, words, kind)) return base;
     mpgc_free_in(base);
@@ -151,16 +152,21 @@ bool mpgc_find(uintptr_t address, uintptr_t *base, size_t *words)
     return status == MPHEAP_OK;
 }
 
+// For figures. The core needn't be asked of a small one, since the page tells: it has objects of one size.
+static size_t words_at(uint64_t base)
+{
+    size_t granules = mpgc_is_inside(base) ? mpgc.granules[mpgc_page_of(base)] : 0;
+    return granules != 0 ? granules * (GRANULE / WORD) : GC_size((void *)base) / WORD;
+}
+
 // Freed last: from then on a signal's handler may be given what lies there, and what is known of it is of the new object.
 void GC_free(void *object)
 {
     if (!object) return;
-    uint64_t base = (uintptr_t)object, found, words = 0;
+    uint64_t base = (uintptr_t)object;
     mpgc_enter();
     mpgc_lock();
-    mpgc_inner_call_begins();
-    (void)mpheap_kept_at(&mpgc.heap, base, &found, &words);
-    mpgc_inner_call_ends();
+    size_t words = words_at(base);
     mpgc_forget_finalizer(base);
     mpgc_forget_described(base);
     mpgc_figures.freed += words;

@@ -57,8 +57,10 @@ static void mark_stack(void)
     empty_stack();
 }
 
+static bool has_pushed;
 static void push(uint64_t word)
 {
+    has_pushed = true;
     if (depth == MPHEAP_STACK_WORDS) mark_stack();
     must(mpheap_set(&mpgc.heap, filling, 0, word));
     must(mpheap_push(&mpgc.heap, filling, 0));
@@ -183,7 +185,12 @@ static void scan_uncollectable(void)
 // ---- What the program and the layer push besides, while roots are taken ----
 
 static bool takes_roots;  // the lock is held
-void mpgc_take_roots(bool on) { takes_roots = is_ending = on; }
+void mpgc_take_roots(bool on, bool is_end)
+{
+    takes_roots = on;
+    is_ending = on && is_end;
+}
+bool mpgc_takes_roots(void) { return takes_roots; }
 
 void mpgc_mark_from(uintptr_t word)
 {
@@ -198,7 +205,11 @@ void mpgc_empty_stack(void)
     mpgc_call_begins();
     empty_stack();
     mpgc_call_ends();
+    has_pushed = false;
 }
+
+// Since it was emptied, or what was pushed then was marked.
+bool mpgc_has_pushed(void) { return has_pushed; }
 
 #define PUSHES(name, words) \
     SHOWN void name words; \
@@ -235,7 +246,6 @@ static void push_others(void)
 {
     takes_roots = true;
     has_read_threads = false;
-    mpgc_reread_described();
     if (GC_push_other_roots) GC_push_other_roots();
     if (!has_read_threads) push_threads();
     takes_roots = false;

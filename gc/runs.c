@@ -31,6 +31,9 @@ static uint64_t ask(uint64_t *bases, size_t words, enum page_kind kind)
     return count;
 }
 
+// Of so many granules the core makes an object of so many.
+static const uint8_t cells[RUN_GRANULES + 1] = { 0, 1, 2, 3, 4, 6, 6, 8, 8, 12, 12, 12, 12, 16, 16, 16, 16 };
+
 static bool is_known(uint64_t base, size_t words, enum page_kind kind)
 {
     return LIKELY(mpgc.kind[mpgc_page_of(base)] == kind) || mpgc_learn(base, words, kind);
@@ -57,7 +60,7 @@ bool mpgc_fill_run(struct run *run, size_t granules, enum page_kind kind)
     uint64_t bases[RUN_OBJECTS];
     size_t words = granules * (GRANULE / WORD);
     uint64_t known = 0, ended = mpgc.ended, count = ask(bases, words, kind);
-    while (known < count && is_known(bases[known], words, kind)) known++;
+    while (known < count && is_known(bases[known], words, kind)) mpgc.granules[mpgc_page_of(bases[known++])] = cells[granules];
     if (ended != mpgc.ended) return run->next < run->end;
     for (uint64_t k = known; k < count; k++) mpgc_free_in(bases[k]);
     publish(run, bases, known);

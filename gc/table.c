@@ -40,13 +40,19 @@ static void grow(struct table *table)
     *table = larger;
 }
 
+// One more, of any table: a request looks whether a collection is due.
+void mpgc_count_entry(void)
+{
+    if (++mpgc_figures.entries > mpgc_figures.most_entries) mpgc_figures.next = 0;
+}
+
 // No entry has its number.
 void mpgc_put(struct table *table, struct entry *one)
 {
     if (table->count == table->room) grow(table);
     mpgc_push(mpgc_place(table, one->number), one);
     table->count++;
-    if (++mpgc_figures.entries > mpgc_figures.most_entries) mpgc_figures.next = 0;
+    mpgc_count_entry();
 }
 
 struct entry *mpgc_take(struct table *table, struct entry **at)

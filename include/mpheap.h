@@ -306,6 +306,10 @@ uint32_t mpheap_mark_beside(mpheap *heap, uint64_t most, const mpheap_asked *ask
  * is not pointer-free. */
 uint32_t mpheap_retrace_beside(mpheap *heap, const mpheap_asked *asked, uint64_t *count);
 
+/* The same of this page, page 0 being the one at MPHEAP_FIRST_ADDRESS: if it is dirty it is read again, and on it nobody writes such a
+ * word. *count becomes 1, or 0 where it is not dirty; a page that the heap has not got is not. */
+uint32_t mpheap_retrace_page_beside(mpheap *heap, uint32_t page, const mpheap_asked *asked, uint64_t *count);
+
 /* Tells that the word at an address will be written by a pointer: its page becomes dirty. An address outside of the heap is
  * ignored. */
 void mpheap_written(mpheap *heap, uint64_t address);

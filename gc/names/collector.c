@@ -28,20 +28,30 @@ static void sleep_until_woken(uint32_t seen)
     sleeps = false;
 }
 
-// One step, under the lock. Answers whether there may be more to do.
+// Steps, under the lock, which others may wait for meanwhile: so they are short, and longer only where the program runs ahead.
+static void make_steps(void)
+{
+    enum { WORDS = 1024, SHORT = 50 };  // microseconds
+    double end = mpgc_now() + SHORT * mpgc_lag();
+    do {
+        mpgc_step(WORDS);
+    } while (mpgc_is_in_cycle() && !mpgc_will_read_roots() && mpgc_now() < end);
+}
+
+// What is due is done, or some of it, under the lock. Answers whether there may be more to do.
 static bool look(void)
 {
-    enum { WORDS = 1024 };
     is_there = mpgc_is_beside() && !mpgc_is_last_thread();
     switch (is_there ? mpgc_due_to_collector() : NOTHING) {
     case TIDYING: mpgc_tidied(mpgc_tidy()); return true;
-    case STEP: mpgc_step(WORDS); return true;
+    case STEP: make_steps(); return true;
     default: return false;
     }
 }
 
 // Behind a call under the lock a program may have a moment's work to do, as Guile has, which says only then where a thread's stack is that
-// it has moved: and who waits for the lock would stop it right there. So that thread is let work for a moment, if it does.
+// it has moved: and who waits for the lock would stop it right there. So that thread is let work for a moment, if it does, before roots are
+// read; and described objects, of which a thread of Guile is one, aren't read before a cycle's end meanwhile, by whomever.
 enum { MOMENT = 20, PATIENCE = 200000 };  // microseconds, of that thread's work and of time
 static clockid_t caller;
 static double called_at, had_worked;
@@ -55,26 +65,33 @@ static double worked(void)
 
 void mpgc_was_called_under_lock(void)
 {
-    if (!is_there || pthread_getcpuclockid(pthread_self(), &caller) != 0) return;
+    bool is_watched = is_there || (mpgc_is_threaded() && mpgc_is_marking());
+    if (!is_watched || pthread_getcpuclockid(pthread_self(), &caller) != 0) return;
     called_at = mpgc_now();
     had_worked = worked();
+}
+
+bool mpgc_is_moment_over(void)
+{
+    bool is_over = called_at == 0 || mpgc_now() - called_at >= PATIENCE || worked() - had_worked >= MOMENT;
+    if (is_over) called_at = 0;
+    return is_over;
 }
 
 static void let_a_moment_pass(void)
 {
     static const struct timespec moment = { 0, 5 * MOMENT * 1000 };
-    while (called_at != 0 && mpgc_now() - called_at < PATIENCE && worked() - had_worked < MOMENT) {
+    while (!mpgc_is_moment_over()) {
         GC_alloc_unlock();
         syscall(SYS_nanosleep, &moment, NULL);
         GC_alloc_lock();
     }
-    called_at = 0;
 }
 
 static bool look_alone(void)
 {
     GC_alloc_lock();
-    let_a_moment_pass();
+    if (mpgc_will_read_roots()) let_a_moment_pass();
     bool answer = look();
     GC_alloc_unlock();
     return answer;

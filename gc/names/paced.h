@@ -7,6 +7,7 @@
 enum due { NOTHING, TIDYING, STEP, COLLECTION, WAKE };
 HIDDEN enum due mpgc_due(bool is_asked);
 HIDDEN enum due mpgc_due_to_collector(void);
+HIDDEN unsigned mpgc_lag(void);
 HIDDEN void mpgc_tidied(bool did_some);
 HIDDEN void mpgc_grant(size_t pages);
 
@@ -18,10 +19,12 @@ HIDDEN void mpgc_start_cycle(void);
 // steps.c
 HIDDEN bool mpgc_is_in_cycle(void);
 HIDDEN bool mpgc_roots_are_read(void);
+HIDDEN bool mpgc_will_read_roots(void);
 HIDDEN void mpgc_skip_sweeping(void);
 
 // collector.c
 HIDDEN void mpgc_was_called_under_lock(void);
+HIDDEN bool mpgc_is_moment_over(void);
 
 // told.c
 HIDDEN GC_stop_func mpgc_stop_func(void);

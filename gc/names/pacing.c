@@ -16,7 +16,8 @@ enum {
     BETWEEN_LOOKS = 256,  // words asked for between two looks, where there is something to do
     BETWEEN_WAKES = 4096, // and where the collector's thread does it
     LEAST_ENTRIES = 4096, // of tables, by which they may grow between two collections
-    LAG = 2,              // so many budgets are asked for before requests help it
+    EARLY = 2,            // a cycle beside the program begins at this part of a budget, and behind a whole one requests help
+    MOST_LAG = 16,
 };
 
 static uint64_t budget;               // words to ask for before the next collection
@@ -24,6 +25,7 @@ static size_t allowed;                // pages, which the heap fills before it
 static size_t granted;                // at least so many, since the program asked for them
 static size_t full;                   // the same, or as many as it has already
 static bool is_ripe;                  // so much was asked for
+static uint64_t unfilled_until;       // words to ask for, before which the pages can't be filled
 static bool is_settled;               // all pages are swept and open
 static bool is_incremental;
 
@@ -45,11 +47,18 @@ static uint64_t pointer_free_in(size_t used)
     return all == 0 ? 0 : (uint64_t)used * of_them / all * (PAGE / WORD);
 }
 
+// Words that the last collection read, of so many pages in use. A page that was read more than once counts as often, so these are the most.
+static uint64_t marked_in(size_t used)
+{
+    uint64_t most = (uint64_t)used * (PAGE / WORD) - pointer_free_in(used);
+    return mpgc_figures.marked < most ? mpgc_figures.marked : most;
+}
+
 static void set_budget_for(size_t used)
 {
     uint64_t room = (mpgc_figures.limit > used ? mpgc_figures.limit - used : 0) * (PAGE / WORD);
     uint64_t most = makes_steps() ? room / 2 : room * 3 / 4;  // a cycle needs room while it marks
-    budget = (2 * mpgc_figures.marked + pointer_free_in(used) / 4 + mpgc_figures.roots / WORD + OWN) / divisor();
+    budget = (2 * marked_in(used) + pointer_free_in(used) / 4 + mpgc_figures.roots / WORD + OWN) / divisor();
     uint64_t spare = (granted > used ? granted - used : 0) * (PAGE / WORD);
     if (budget < spare / 2) budget = spare / 2;
     if (budget > most) budget = most;
@@ -72,6 +81,7 @@ void mpgc_set_budget(void)
     mpgc_figures.next = left + BETWEEN_LOOKS;
     mpgc_figures.most_entries = mpgc_figures.entries + (mpgc_figures.entries / 3 > LEAST_ENTRIES ? mpgc_figures.entries / 3 : LEAST_ENTRIES);
     is_ripe = false;
+    unfilled_until = 0;
     is_settled = false;
 }
 
@@ -88,6 +98,7 @@ void mpgc_grant(size_t pages)
     granted = pages;
     settle();
     if (full < allowed) full = allowed;
+    unfilled_until = 0;
     mpgc_figures.next = 0;
 }
 
@@ -100,23 +111,36 @@ static uint64_t asked_for(void)
     return freed > since - since / 8 ? since / 8 : since - freed;
 }
 
+// Words that are asked for before so many pages are taken, but no more than these. A page is hardly taken for less than half of its words.
+static uint64_t words_before(size_t pages, uint64_t words)
+{
+    uint64_t half = (uint64_t)pages * (PAGE / WORD) / 2;
+    return half < words ? half : words;
+}
+
 // Pages mostly keep something, so that one which was taken past those allowed stays, and each collection might wait for one more: so a quarter
-// is the most, and what was asked for tells it too, as far as that is known.
+// is the most, and what was asked for tells it too, as far as that is known. To count pages takes as long as there are many, so that they
+// aren't counted again before they may be filled.
 static bool has_filled_its_pages(void)
 {
-    size_t used = mpgc_used_pages();
+    if (is_ripe && mpgc_figures.since < unfilled_until) return false;
+    size_t used = mpgc_used_pages(), most = mpgc_figures.limit / 4 * 3;
     if (!is_ripe && used > full) {
         while (allowed < used) allowed += more_pages();
         full = allowed;
     }
     is_ripe = true;
-    return used > full || used >= mpgc_figures.limit / 4 * 3 || mpgc_figures.marked + asked_for() >= allowed * (PAGE / WORD);
+    uint64_t asked = mpgc_figures.marked + asked_for(), room = allowed * (PAGE / WORD);
+    if (used > full || used >= most || asked >= room) return true;
+    unfilled_until = mpgc_figures.since + words_before((full < most ? full : most) - used, room - asked);
+    return false;
 }
 
 static bool is_due(void)
 {
     if ((is_incremental && mpgc_is_in_cycle()) || mpgc_figures.entries > mpgc_figures.most_entries) return true;
-    return asked_for() >= budget && (makes_steps() || has_filled_its_pages());
+    uint64_t due = mpgc_is_beside() ? budget / EARLY : budget;
+    return asked_for() >= due && (makes_steps() || has_filled_its_pages());
 }
 
 static enum due step_or_collection(void)
@@ -130,10 +154,17 @@ static enum due step_or_collection(void)
 static enum due due_beside(void)
 {
     bool is_needed = is_due() || (GC_gc_no > 0 && !is_settled);
-    bool is_late = mpgc_figures.since >= LAG * budget || mpgc_figures.entries > mpgc_figures.most_entries + LEAST_ENTRIES;
-    mpgc_figures.next = !is_needed ? budget : mpgc_figures.since + (is_late ? BETWEEN_LOOKS : BETWEEN_WAKES);
+    bool is_late = mpgc_figures.since >= budget || mpgc_figures.entries > mpgc_figures.most_entries + LEAST_ENTRIES;
+    mpgc_figures.next = !is_needed ? budget / EARLY : mpgc_figures.since + (is_late ? BETWEEN_LOOKS : BETWEEN_WAKES);
     if (!is_needed) return NOTHING;
     return is_late ? step_or_collection() : WAKE;
+}
+
+// So many times as long may a step beside the program be, since that runs ahead.
+unsigned mpgc_lag(void)
+{
+    uint64_t begun = budget / EARLY, lag = mpgc_figures.since > begun ? (mpgc_figures.since - begun) * MOST_LAG / budget : 0;
+    return lag < MOST_LAG ? (unsigned)lag + 1 : MOST_LAG;
 }
 
 enum due mpgc_due_to_collector(void)

@@ -1,10 +1,10 @@
 // A cycle in small steps: which piece is next. It answers, and cycle.c does.
 //
-//     at rest -> pages are swept and closed, a few a step -> it begins -> roots are read -> marking -> dirty pages are read again ->
-//     roots again -> marking and dirty pages -> its end
+//     at rest -> pages are swept and closed, a few a step -> it begins -> roots are read -> marking -> described objects, some a step, and
+//     marking -> dirty pages are read again -> roots again -> marking, described objects and dirty pages -> its end
 //
-// Each stop of the program is one of: some pages, the marks' beginning, the roots, some words and a batch of dirty pages, and the end, which
-// reads the roots and what few pages were written last.
+// Each stop of the program is one of: some pages, the marks' beginning, the roots, some words and a batch of dirty pages, some described
+// objects, and the end, which reads the roots, what few pages were written last, and described objects once more.
 //
 // How dirty pages are read again, so that it converges beside a program that writes everywhere: a batch closes as many of the lowest open
 // pages as it reads again, so that no page is closed long before it is read. A batch is six times the pages that the program made dirty
@@ -18,23 +18,28 @@ enum {
     LEAST = 16, TIMES = 6,          // pages of a batch: at least, and for each that became dirty since the last batch
     BETWEEN = 16,                   // words asked for between two batches
     BESIDE = 4,                     // batches of a cycle beside the program's threads that leave few pages to its end
+    AT_ONCE = 8,                    // pages of a step beside them, or more where they run ahead
     ROOT_ROUNDS = 2, FEW_WORDS = 512,
     WRITTEN = 4, STILL = 64,        // pages for each fault of a cycle, behind which the next begins with open pages, and stays so
 };
 
 static enum piece next = SWEEP;  // with which a step begins
 static unsigned root_rounds;
-static size_t batch, left_in_batch;
+static size_t batch, left_in_batch, in_step;
 static size_t last_dirty;        // pages, at the end of a batch in the step before this one; or all
-static unsigned long faults_before;
+static unsigned long faults_before, retraces_before;
 static unsigned batches;
 static bool is_late;             // pages are read again
+static bool has_read_described;  // since the roots were read
 static bool is_open;             // cycles begin with open pages
 static uint64_t marked;          // words, since the roots were read
 
 bool mpgc_is_in_cycle(void) { return next != SWEEP && next != START; }
 
 bool mpgc_roots_are_read(void) { return next == MARK; }
+
+static bool reads_roots(enum piece piece) { return piece == ROOTS || piece == END; }
+bool mpgc_will_read_roots(void) { return reads_roots(next); }
 
 // Another collection has the heap now, or the cycle ends.
 void mpgc_drop_cycle(void)
@@ -89,6 +94,14 @@ static size_t next_batch(void)
     return dirty < batch ? dirty : batch;
 }
 
+// What a cycle has marked is counted, to pace by. Most is what it read off entries; but objects that found no room on the core's mark stack are
+// read with their pages, as are those on pages that are open from the beginning. No fault told of these, so each counts whole.
+static void count_pages(size_t faults)
+{
+    size_t retraces = mpgc_figures.retraces - retraces_before;
+    if (retraces > faults) mpgc_figures.marked += (retraces - faults) * (PAGE / WORD);
+}
+
 // All is marked that the roots and the pages read led to. What was made while the cycle marked may be named by roots alone: they are read
 // again until that leads to little.
 static enum piece roots_or_end(void)
@@ -96,6 +109,7 @@ static enum piece roots_or_end(void)
     bool is_little = root_rounds > 0 && marked <= FEW_WORDS;
     size_t faults = mpgc_figures.faults - faults_before;
     if (is_little || root_rounds == ROOT_ROUNDS) {
+        count_pages(faults);
         is_open = faults * (is_open ? STILL : WRITTEN) > mpgc_pages_of(ORDINARY);
         return END;
     }
@@ -113,8 +127,16 @@ static enum piece after_mark(uint64_t read, uint64_t *left)
         last_dirty = MAX_PAGES;
         return NO_PIECE;
     }
+    if (!has_read_described && mpgc_count_described() > 0 && mpgc_is_moment_over()) return DESCRIBED;
     if (left_in_batch == 0) left_in_batch = next_batch();
     return left_in_batch == 0 ? roots_or_end() : REREAD;
+}
+
+// What they lead to is marked in the next step; or there was nothing more.
+static enum piece after_described(bool is_more)
+{
+    has_read_described = !is_more;
+    return is_more ? NO_PIECE : MARK;
 }
 
 static enum piece after_reread(size_t pages)
@@ -122,21 +144,31 @@ static enum piece after_reread(size_t pages)
     if (pages == 0) return roots_or_end();
     left_in_batch -= pages < left_in_batch ? pages : left_in_batch;
     last_dirty -= pages < last_dirty ? pages : last_dirty;
-    return left_in_batch == 0 || mpgc_is_beside() ? NO_PIECE : MARK;
+    in_step += pages;
+    if (left_in_batch > 0 && (!mpgc_is_beside() || in_step < AT_ONCE * mpgc_lag())) return MARK;
+    in_step = 0;
+    return NO_PIECE;
 }
 
-// What follows on a piece in the same step.
-enum piece mpgc_piece_after(enum piece piece, uint64_t did, uint64_t *left)
+static enum piece piece_after(enum piece piece, uint64_t did, uint64_t *left)
 {
     if (is_late && !mpgc_is_beside()) mpgc_figures.next = mpgc_figures.since + BETWEEN;
     switch (piece) {
     case SWEEP: return did ? NO_PIECE : START;
-    case START: faults_before = mpgc_figures.faults; return stop_before(is_open ? BEGIN : CLOSE);
+    case START: faults_before = mpgc_figures.faults; retraces_before = mpgc_figures.retraces; return stop_before(is_open ? BEGIN : CLOSE);
     case CLOSE: return did ? NO_PIECE : BEGIN;
     case BEGIN: begin(); return stop_before(ROOTS);
-    case ROOTS: marked = 0; return stop_before(MARK);
+    case ROOTS: marked = 0; has_read_described = false; return stop_before(MARK);
     case MARK: return after_mark(did, left);
     case REREAD: return after_reread(did);
+    case DESCRIBED: return after_described(did);
     default: return NO_PIECE;
     }
+}
+
+// What follows on a piece in the same step. Beside the program's threads with the roots another step begins.
+enum piece mpgc_piece_after(enum piece piece, uint64_t did, uint64_t *left)
+{
+    enum piece after = piece_after(piece, did, left);
+    return reads_roots(after) && mpgc_is_beside() ? stop_before(after) : after;
 }

@@ -1,8 +1,9 @@
 /* A collector's thread marks by mpheap_mark_beside while other threads write words by pointers, without a lock. What mpheap.h asks
  * of them is done here by page protection: while a cycle marks all pages are closed; the first write to a page faults, waits until
- * no step runs, tells the page and opens it. The world stops for roots and the cycle's end alone. After each cycle all objects are
- * compared with what their threads wrote. beside SECONDS tells each page; beside SECONDS untold tells nothing, and then objects have
- * to be lost, or the test shows nothing. */
+ * no step runs, tells the page and opens it. Open pages are closed again and read by mpheap_retrace_page_beside, the highest first,
+ * while lower ones are open. The world stops for roots and the cycle's end alone. After each cycle all objects are compared with
+ * what their threads wrote. beside SECONDS tells each page; beside SECONDS untold tells nothing, and then objects have to be lost,
+ * or the test shows nothing. */
 #define _GNU_SOURCE
 #include "check.h"
 #include "mpheap.h"
@@ -39,7 +40,7 @@ static atomic_int stops_wanted, stopped, turn, waiting;
 static atomic_uint_fast64_t next_tag = (uint64_t)1 << 62;
 static bool tells = true;
 static writer writers[THREADS];
-static uint64_t cycles, steps, lost;
+static uint64_t cycles, steps, read_again, lost;
 
 static char *page_at(uint64_t page) {
     return (char *)(uintptr_t)(MPHEAP_FIRST_ADDRESS + page * MPHEAP_PAGE_BYTES);
@@ -220,6 +221,22 @@ static void mark(void) {
     }
 }
 
+/* Each page that is open now, with the lock for one at a time. */
+static void retrace(void) {
+    mpheap_asked asked = MPHEAP_ASKED;
+    for (uint32_t page = PAGES; page > 0 && !atomic_load(&has_ended);) {
+        uint64_t count = 0;
+        if (!atomic_load(&is_open[--page])) continue;
+        while (atomic_load(&waiting) > 0) sched_yield();
+        enter();
+        atomic_store(&is_open[page], false);
+        mprotect(page_at(page), MPHEAP_PAGE_BYTES, PROT_READ);
+        mpheap_retrace_page_beside(&heap, page, &asked, &count);
+        leave();
+        read_again += count;
+    }
+}
+
 /* With the world stopped. Behind it nothing has to be told until the next cycle begins, since a free is done. */
 static void finish(void) {
     uint64_t count = 0, base = 0;
@@ -249,6 +266,8 @@ static void *collect_on(void *given) {
         if (!stop_the_world()) break;
         begin();
         let_the_world_go_on();
+        mark();
+        retrace();
         mark();
         if (!stop_the_world()) break;
         finish();
@@ -299,10 +318,11 @@ int main(int argc, char **argv) {
     if (tells) {
         look_at_all();
         IS(lost, 0);
-        IS(cycles > 1 && steps > cycles, 1);
+        IS(cycles > 1 && steps > cycles && read_again > cycles, 1);
     } else {
         IS(lost > 0, 1);
     }
-    printf("beside: %" PRIu64 " writes, %" PRIu64 " steps, %" PRIu64 " cycles, %s\n", writes, steps, cycles, tells ? "told" : "untold");
+    printf("beside: %" PRIu64 " writes, %" PRIu64 " steps, %" PRIu64 " pages read again, %" PRIu64 " cycles, %s\n", writes, steps, read_again,
+           cycles, tells ? "told" : "untold");
     return counts("beside");
 }

@@ -6,6 +6,7 @@
 enum { UNTOUCHED = 77, TWO = 1, NUMBER = 2, PLACE = 3, LATER = 4, OTHER = 5, MANY = 10 };
 
 static mpheap heap = MPHEAP_CLOSED;
+static const mpheap_asked asked = MPHEAP_ASKED;
 static uint8_t me;
 static uint64_t many[MANY];
 
@@ -267,6 +268,8 @@ static void the_wrong_phase(void) {
     IS(mpheap_roots(&heap), MPHEAP_WRONG_PHASE);
     STAYS(MPHEAP_WRONG_PHASE, mpheap_mark(&heap, 4, &word));
     STAYS(MPHEAP_WRONG_PHASE, mpheap_retrace(&heap, &word));
+    STAYS(MPHEAP_WRONG_PHASE, mpheap_retrace_beside(&heap, &asked, &word));
+    STAYS(MPHEAP_WRONG_PHASE, mpheap_retrace_page_beside(&heap, 0, &asked, &word));
     STAYS(MPHEAP_WRONG_PHASE, mpheap_finish(&heap, &word));
     IS(mpheap_gc_no(&heap), 0);
     IS(mpheap_begin_partial(&heap), MPHEAP_NEEDS_FULL);
@@ -275,6 +278,21 @@ static void the_wrong_phase(void) {
     IS(mpheap_begin_partial(&heap), MPHEAP_WRONG_PHASE);
     IS(mpheap_is_marking(&heap), 1);
     IS(mpheap_gc_no(&heap), 0);
+}
+
+/* Of two dirty pages of four the upper one is read again, and then the lower one; a clean one isn't, and none that isn't there. */
+static void a_page_is_read_by_its_number(void) {
+    uint64_t word = UNTOUCHED;
+    mpheap_written(&heap, MPHEAP_FIRST_ADDRESS);
+    mpheap_written(&heap, MPHEAP_FIRST_ADDRESS + 2 * MPHEAP_PAGE_BYTES);
+    const uint32_t numbers[] = { 1, 4, UINT32_MAX, 2, 2, 0 };
+    const uint64_t read[] = { 0, 0, 0, 1, 0, 1 };
+    const uint32_t dirty[] = { 2, 2, 2, 1, 1, 0 };
+    for (int k = 0; k < 6; k++) {
+        IS(mpheap_retrace_page_beside(&heap, numbers[k], &asked, &word), MPHEAP_OK);
+        IS(word, read[k]);
+        IS(mpheap_dirty_pages(&heap), dirty[k]);
+    }
 }
 
 /* In a cycle that is marking: two objects, one behind the other; what is written makes its page dirty; and one that nothing
@@ -306,6 +324,7 @@ static void a_cycle_marks_and_ends(void) {
     IS(word, 1);
     IS(mpheap_retrace(&heap, &word), MPHEAP_OK);
     IS(word, 0);
+    a_page_is_read_by_its_number();
     IS(mpheap_finish(&heap, &word), MPHEAP_OK);
     IS(word, 1);
     IS(mpheap_gc_no(&heap), 2);

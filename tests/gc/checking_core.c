@@ -276,16 +276,22 @@ static uint64_t mark(uint64_t most)
     return read;
 }
 
-static uint64_t retrace(void)
+static uint64_t retrace_page(uint64_t page)
 {
-    uint64_t page = 0, base, words;
-    while (page < used && !pages[page].is_dirty) page++;
-    if (page == used) return 0;
+    uint64_t base, words;
+    if (page >= used || !pages[page].is_dirty) return 0;
     becomes_clean(page);
     for (uint64_t at = start_of(page); holds_ordinary(page) && at < start_of(page + 1); at += 8)
         if (find(at, &base, &words) && is_marked[granule_of(base)]) mark_word(word_at(at));
     check(page, "a page was written while it was read again");
     return 1;
+}
+
+static uint64_t retrace(void)
+{
+    uint64_t page = 0;
+    while (page < used && !pages[page].is_dirty) page++;
+    return retrace_page(page);
 }
 
 uint32_t mpheap_begin(mpheap *heap)
@@ -340,6 +346,15 @@ uint32_t mpheap_retrace_beside(mpheap *heap, const mpheap_asked *asked, uint64_t
 {
     (void)asked;
     return mpheap_retrace(heap, count);
+}
+
+uint32_t mpheap_retrace_page_beside(mpheap *heap, uint32_t page, const mpheap_asked *asked, uint64_t *count)
+{
+    (void)heap;
+    (void)asked;
+    if (!is_marking) return MPHEAP_WRONG_PHASE;
+    *count = retrace_page(page);
+    return MPHEAP_OK;
 }
 
 /* What isn't marked goes from the page. */

@@ -156,6 +156,42 @@ static NOINLINE void chains(void)
     chain = NULL;
 }
 
+/* Words of typed objects, each with the only pointer to an object, change places while cycles go on: also those of objects that were read
+ * before their cycle's end. */
+enum { HOLDERS = 20000, MOVES = 300000 };
+static struct link **holders;
+static NOINLINE void make_holders(void)
+{
+    GC_word bits[1] = { 2 };
+    GC_descr type = GC_make_descriptor(bits, 2);
+    holders = GC_malloc(HOLDERS * sizeof *holders);
+    for (uint64_t k = 0; k < HOLDERS; k++) {
+        holders[k] = GC_malloc_explicitly_typed(sizeof *holders[k], type);
+        holders[k]->next = GC_malloc(sizeof *holders[k]->next);
+        holders[k]->next->number = k;
+    }
+}
+static NOINLINE void moved(void)
+{
+    static char seen[HOLDERS];
+    uint64_t random = 88172645463325252u, right = 0;
+    make_holders();
+    for (int k = 0; k < MOVES; k++) {
+        random = random * 6364136223846793005u + 1442695040888963407u;
+        struct link *one = holders[(random >> 33) % HOLDERS], *other = holders[(random >> 17) % HOLDERS], *next = one->next;
+        one->next = other->next;
+        other->next = next;
+        ((struct link *)GC_malloc(sizeof *one))->number = HOLDERS;
+    }
+    for (int k = 0; k < HOLDERS; k++) {
+        uint64_t number = holders[k]->next->number;
+        right += number < HOLDERS && !seen[number];
+        if (number < HOLDERS) seen[number] = 1;
+    }
+    CHECK(right == HOLDERS);
+    holders = NULL;
+}
+
 /* A kind with a function, which marks the second word alone. */
 static int marked;
 static struct GC_ms_entry *mark_second(GC_word *object, struct GC_ms_entry *top, struct GC_ms_entry *limit, GC_word environment)
@@ -357,6 +393,7 @@ int main(void)
     long_bitmap();
     typed_array();
     chains();
+    moved();
     kinds();
     per_object();
     toggles();

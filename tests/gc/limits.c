@@ -4,6 +4,7 @@
 #define _GNU_SOURCE
 #define GC_OOM_FUNC_RETURNS_ALIAS
 #include <errno.h>
+#include <stdbool.h>
 #include <stdint.h>
 #include <sys/resource.h>
 #define GC_REQUIRE_WCSDUP
@@ -259,6 +260,37 @@ static int stack_may_grow(void)
     return recurse(4000);
 }
 
+/* Of objects that one array names, far more than the core's mark stack has entries. Between two collections a third of twice what lives is
+ * asked for, by the usual divisor, so there are as many at most, whether the program writes to all of them or not. */
+static int collections_by_what_lives(bool writes)
+{
+    enum { OBJECTS = 100000, OBJECT = 32, LIVES = OBJECTS * (OBJECT + sizeof(void *)), ASKED = 40 * MEGABYTE };
+    GC_set_free_space_divisor(3);
+    void ***wide = GC_malloc(OBJECTS * sizeof *wide);
+    for (size_t k = 0; k < OBJECTS; k++) wide[k] = GC_malloc(OBJECT);
+    GC_gcollect();
+    GC_word before = GC_get_gc_no();
+    for (uint64_t k = 0; k < ASKED / OBJECT; k++) {
+        void *made = GC_malloc(OBJECT);
+        if (writes) *wide[k * 7919 % OBJECTS] = k % 2 ? NULL : made;
+    }
+    return GC_get_gc_no() - before <= ASKED / (LIVES * 2 / 3) + 1 ? 0 : 1;
+}
+
+static int is_paced_by_all_that_lives(void) { return collections_by_what_lives(false); }
+
+static int is_paced_in_steps_too(void)
+{
+    GC_enable_incremental();
+    return collections_by_what_lives(false);
+}
+
+static int is_paced_beside_writes(void)
+{
+    GC_enable_incremental();
+    return collections_by_what_lives(true);
+}
+
 int main(void)
 {
     CHECK(status_of(hands_on_a_reserve) == 0);
@@ -279,5 +311,8 @@ int main(void)
     CHECK(status_of(is_off_by_itself) == 0);
     CHECK(status_of(pages_are_objects) == 0);
     CHECK(status_of(stack_may_grow) == 0);
+    CHECK(status_of(is_paced_by_all_that_lives) == 0);
+    CHECK(status_of(is_paced_in_steps_too) == 0);
+    CHECK(status_of(is_paced_beside_writes) == 0);
     return check_ends();
 }
