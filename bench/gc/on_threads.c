@@ -1,4 +1,5 @@
-/* The programs of programs.c on several threads at once, each with its own data.
+/* The programs of programs.c on several threads at once, each with its own data; of `stores` each thread has 40,000 nodes, and asks for an
+ * object every third store. And one more, `live`: all threads together keep 256 MiB, and ask for as much again that goes.
  *
  *     on_threads NAME ROUNDS THREADS
  *
@@ -16,10 +17,20 @@ int GC_pthread_create(pthread_t *thread, const pthread_attr_t *attributes, void 
 int GC_pthread_join(pthread_t thread, void **answer);
 
 static uint64_t (*program)(void);
-static int rounds;
+static int rounds, many;
 static double all_longest;
 static uint64_t sum;
 static pthread_mutex_t lock = PTHREAD_MUTEX_INITIALIZER;
+
+/* An object is of 32 bytes over either heap. */
+static uint64_t live(void)
+{
+    int depth = 22;
+    for (int k = many; k > 1; k /= 2) depth--;
+    const struct tree *kept = make_tree(depth);
+    for (int k = 0; k < 256; k++) (void)make_tree(depth - 8);
+    return count_tree(kept);
+}
 
 static void *run(void *number)
 {
@@ -43,10 +54,13 @@ static double milliseconds(clockid_t clock)
 int main(int count, char **words)
 {
     static const struct { const char *name; uint64_t (*run)(void); } all[] = {
-        { "gcbench", gcbench }, { "tree", tree }, { "list", list }, { "table", table }, { "strings", strings }
+        { "gcbench", gcbench }, { "tree", tree }, { "list", list }, { "table", table }, { "strings", strings },
+        { "stores", stores }, { "live", live }
     };
     pthread_t threads[64];
-    int many = count > 3 ? atoi(words[3]) : 1;
+    many = count > 3 ? atoi(words[3]) : 1;
+    nodes = 40000;
+    every = 3;
     if (count < 3 || many < 1 || many > 64) return 1;
     GC_INIT();
     GC_allow_register_threads();

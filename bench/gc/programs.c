@@ -219,9 +219,8 @@ static uint64_t strings(void)
 struct node { struct node *to, *own; uint64_t number; };
 enum { CHUNK = 1000, STEPS = 3000000 };
 static uint64_t nodes, every;
-static struct node ***chunks;
 
-static struct node **place_of(uint64_t k) { return &chunks[k / CHUNK][k % CHUNK]; }
+static struct node **place_of(struct node ***chunks, uint64_t k) { return &chunks[k / CHUNK][k % CHUNK]; }
 
 static struct node *make_node(uint64_t number)
 {
@@ -233,14 +232,14 @@ static struct node *make_node(uint64_t number)
 static uint64_t stores(void)
 {
     uint64_t sum = 0;
-    chunks = ASK((nodes / CHUNK + 1) * sizeof *chunks);
+    struct node ***chunks = ASK((nodes / CHUNK + 1) * sizeof *chunks);
     for (uint64_t k = 0; k < nodes; k++) {
         if (k % CHUNK == 0) chunks[k / CHUNK] = ASK(CHUNK * sizeof **chunks);
-        *place_of(k) = make_node(k);
+        *place_of(chunks, k) = make_node(k);
     }
     for (uint64_t k = 0; k < STEPS; k++) {
-        struct node *at = *place_of(next_random() % nodes);
-        at->to = *place_of(next_random() % nodes);
+        struct node *at = *place_of(chunks, next_random() % nodes);
+        at->to = *place_of(chunks, next_random() % nodes);
         if (k % every == 0) at->own = make_node(k);
         sum += at->to->number + (at->own ? at->own->number : 0);
     }
