@@ -413,31 +413,42 @@ static int ends_with_its_last_thread(void)
     return seen == child && WIFEXITED(status) && WEXITSTATUS(status) == 0;
 }
 
-/* Behind a call under the lock the program has a moment's work to do, and is let do it before its roots are read. It is waited for so long
-   and no longer: on a machine that gives it no processor meanwhile a reading or two come before. */
+/* Behind a call under the lock the program has a moment's work to do, and is let do it before its roots are read: 20 us of its own work, but
+   no longer than 200 ms of time. Its work is counted from within the call, so a little longer than the layer counts it. */
+static clockid_t own_clock;
+static volatile double called_at, had_worked;
 static volatile int is_between;
-static int readings, caught;
+static int readings, early;
 static GC_push_other_roots_proc others;
+static double microseconds(clockid_t clock)
+{
+    struct timespec time = { 0, 0 };
+    clock_gettime(clock, &time);
+    return (double)time.tv_sec * 1e6 + (double)time.tv_nsec / 1e3;
+}
 static void work_for(int rounds)
 {
     for (volatile int k = 0; k < rounds; k++) continue;
 }
 static void *begin_between(void *data)
 {
-    is_between = 1;
     work_for(100000);
+    called_at = microseconds(CLOCK_MONOTONIC);
+    had_worked = microseconds(own_clock);
+    is_between = 1;
     return data;
 }
 static void note_reading(void)
 {
     readings++;
-    caught += is_between;
+    early += is_between && microseconds(own_clock) - had_worked < 20 && microseconds(CLOCK_MONOTONIC) - called_at < 200000;
     if (others) others();
 }
 static void behind_calls(void)
 {
     void *volatile held[60];
     GC_word end = GC_get_gc_no() + 200;
+    CHECK(pthread_getcpuclockid(pthread_self(), &own_clock) == 0);
     others = GC_get_push_other_roots();
     GC_set_push_other_roots(note_reading);
     while (GC_get_gc_no() < end) {
@@ -448,7 +459,7 @@ static void behind_calls(void)
     }
     (void)held[0];
     GC_set_push_other_roots(others);
-    CHECK(readings >= 200 && caught <= 4);
+    CHECK(readings >= 200 && early == 0);
 }
 
 int main(int count, char **words)
