@@ -4,6 +4,7 @@ use Rattle.std.proofs.lemmas.Option.{same_Some, none-some}
 use Rattle.words.specs.declared.class.Kind.{Kind}
 use Rattle.words.specs.declared.class.Placement.{Placement}
 use Rattle.words.specs.declared.class.Placement.TheVariants.{Small, Large}
+use Rattle.words.specs.declared.limits.TheConstants.{FIRST_ADDRESS}
 use Rattle.heap_spec.specs.Layout.{LiesOn}
 use Rattle.heap_spec.specs.declared.call.Call.{Call}
 use Rattle.heap_spec.specs.declared.event.Event.{Event}
@@ -20,7 +21,7 @@ use Rattle.heap_spec.proofs.Layouts.{IsPlacement, placed}
 room_none : (s : Heap) (placement : Placement) (kind : Kind) (a : ℕ) → IsPlacement placement → HasRoom s placement kind a → (o : Object) → HasObject s a o → 0 < length o.words → ⊥
 room_none s (Small class) kind a fit room o has some = ⊎_elim (λ empty. empty a o has (lies class room.in_page room.is_cell)) (λ cut. none-some o (sym cut.1 ∙ has)) room.cut
   where
-    lies : (class : ℕ) → class * (room.cell + 1) ≤ 512 → a ≡ 268435456 + 4096 * room.page + 8 * (class * room.cell) → LiesOn a (length o.words) room.page
+    lies : (class : ℕ) → class * (room.cell + 1) ≤ 512 → a ≡ FIRST_ADDRESS + 4096 * room.page + 8 * (class * room.cell) → LiesOn a (length o.words) room.page
     lies zero in_page is = (omega arith, omega arith)
     lies (suc c) in_page is = (omega arith, omega arith)
 room_none s (Large pages) kind a fit room o has some =
