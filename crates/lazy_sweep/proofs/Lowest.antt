@@ -76,11 +76,11 @@ module _ (row : List Bool) (lowest page : ℕ) (is : IsLowest row lowest) (insid
 module _ (row : List Bool) (page highest : ℕ) (end : IsEmptyFrom row (highest + 1)) where
   pub end_rises : highest < page → IsEmptyFrom (set row page true) (page + 1)
   end_rises lt k from inside =
-    get_or-set_other row page k true false (omega arith) ∙ end k (omega arith) (subst (λ n. k < n) (length-set row page true) inside)
+      get_or-set_other row page k true false (omega arith) ∙ end k (omega arith) (subst (λ n. k < n) (length-set row page true) inside)
 
   pub end_stays : page ≤ highest → IsEmptyFrom (set row page true) (highest + 1)
   end_stays le k from inside =
-    get_or-set_other row page k true false (omega arith) ∙ end k from (subst (λ n. k < n) (length-set row page true) inside)
+      get_or-set_other row page k true false (omega arith) ∙ end k from (subst (λ n. k < n) (length-set row page true) inside)
 
   pub end_left : page < length row → IsEmptyFrom (set row page false) (highest + 1)
   end_left within k from inside = ⊎_elim
