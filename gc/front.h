@@ -23,7 +23,7 @@
 
 // The core's measures, which layer.h compares with those of mpheap.h.
 #define PAGE ((size_t)4096)
-#define FIRST ((uintptr_t)0x10000000)
+#define FIRST ((uintptr_t)0x550000000000)
 #define WORD ((size_t)8)
 #define GRANULE ((size_t)16)
 #define MAX_PAGES ((size_t)1 << 20)  // of the largest heap
@@ -97,8 +97,12 @@ HIDDEN size_t mpgc_pending_pages(void);
 HIDDEN size_t mpgc_dirty_pages(void);
 HIDDEN size_t mpgc_free_run(size_t from, size_t *first);
 
-// And this one: words that count as asked for, and weren't given out yet.
+// And these: words that count as asked for, and weren't given out yet; words that were freed since the last collection, or since this was last
+// asked to begin anew, and count as asked for again; and that more is known of an object than its size and kind, and whether it
+// is uncollectable.
 HIDDEN size_t mpgc_words_in_runs(void);
+HIDDEN size_t mpgc_words_taken_back(bool begins_anew);
+HIDDEN void mpgc_know_more(uintptr_t base);
 
 // And these. Whether a cycle marks, there was ever a second thread, every other one has ended, and the program has ever said where a thread's
 // stack ends; the links that stand, and the described objects; this thread, if it is known, and its stack, as the program or the C library says where it ends.

@@ -37,7 +37,7 @@ void mpgc_open(void)
     is_open = true;
     mpgc_know_first();
     mpgc.all = open_core();
-    if (mpgc.all == 0) mpgc_stop("there is no memory at 0x10000000, where the heap's addresses begin");
+    if (mpgc.all == 0) mpgc_stop("there is no memory at 0x550000000000, where the heap's addresses begin");
     if (mpheap_attach(&mpgc.heap, &mpgc.slot) != MPHEAP_OK) mpgc_stop("a new heap has no slot");
     if (mpgc_figures.limit > mpgc.all) mpgc_figures.limit = mpgc.all;
     mpgc_make_spare();

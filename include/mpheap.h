@@ -69,8 +69,7 @@ enum {
     MPHEAP_PAGE_WORDS = 512,
     MPHEAP_PAGE_BYTES = 4096,
     MPHEAP_WORD_BYTES = 8,
-    MPHEAP_FIRST_ADDRESS = 268435456, /* 0x10000000 */
-    MPHEAP_MAX_SMALL_WORDS = 256,     /* a larger request takes whole pages, in a row */
+    MPHEAP_MAX_SMALL_WORDS = 256,          /* a larger request takes whole pages, in a row */
     MPHEAP_MAX_REQUEST_WORDS = 65536,      /* of an open without limits of its own */
     MPHEAP_MOST_REQUEST_WORDS = 536870912, /* of an open with them: all words of the largest heap */
     MPHEAP_SLOTS = 16,
@@ -79,6 +78,9 @@ enum {
     MPHEAP_GLOBALS = 64,
     MPHEAP_MAX_LINKS = 64
 };
+
+/* Where each heap's addresses begin: far from the numbers that programs count with, and where the system puts nothing of its own. */
+#define MPHEAP_FIRST_ADDRESS UINT64_C(0x550000000000)
 
 /* ---- A heap ---- */
 

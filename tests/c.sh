@@ -75,6 +75,7 @@ constants_are_the_sources() {
     works "constants" compile constants c99 tests/c/constants.c
     while read -r name value; do
         case $name in
+            FIRST_ADDRESS) is "$name" "$value" "$(sed -n 's/^first=\([0-9]*\) .*/\1/p' "$top/c/library")" ;;
             Refusal::*) is "$name" "$value" "$(sed -n "s/^ *$name => \([0-9]*\),.*/\1/p" "$top/crates/words/src/refusal.rt" | head -n 1)" ;;
             *) is "$name" "$value" "$(cat "$top/crates/words/src/limits.rt" "$crate/src/status.rt" | sed -n "s/^pub const $name: u[0-9]* = \([0-9_]*\);/\1/p" | tr -d _)" ;;
         esac

@@ -7,6 +7,14 @@
 
 enum { LONGEST = 255, MOST_WORDS = 6 };
 
+/* The heap of scripts begins at `from` and that for C elsewhere: a word that lies a MiB before the one, in it or 4 GiB behind it stands as far
+ * from the other. */
+static uint64_t moved(uint64_t word, uint64_t from, uint64_t to) {
+    const uint64_t before = (uint64_t)1 << 20, behind = (uint64_t)1 << 32;
+    return word - (from - before) < before + behind ? word - from + to : word;
+}
+static const uint64_t first = 268435456;
+
 typedef struct {
     const char *words[MOST_WORDS];
     int count;
@@ -19,7 +27,7 @@ typedef enum { NOTHING, WORD, COUNT, SLOT } answers;
 
 typedef struct {
     const char *name;
-    const char *takes; /* r: a register, g: a global, n: a number, k: a kind of object */
+    const char *takes; /* r: a register, g: a global, n: a number, w: a word, k: a kind of object */
     answers gives;
     uint32_t (*make)(mpheap *heap, const line *l, uint64_t *word);
 } call;
@@ -134,7 +142,9 @@ static bool reads_word(const char *text, char as, uint64_t *number) {
         return *number == 1 || strcmp(text, "normal") == 0;
     }
     uint64_t most = as == 'r' ? MPHEAP_REGISTERS - 1 : as == 'g' ? MPHEAP_GLOBALS - 1 : UINT64_MAX;
-    return reads_number(text, most, number);
+    if (!reads_number(text, most, number)) return false;
+    if (as == 'w') *number = moved(*number, first, MPHEAP_FIRST_ADDRESS);
+    return true;
 }
 
 /* Cuts a line at its spaces. Two in a row, or one at an end, make an empty word, which is no word of any line. */
@@ -180,7 +190,7 @@ static void print(uint32_t pages, uint32_t status, answers gives, uint64_t word)
     } else if (gives == WORD && is_address) {
         puts("ptr");
     } else {
-        printf("%s%" PRIu64 "\n", gives == SLOT ? "mutator " : "", word);
+        printf("%s%" PRIu64 "\n", gives == SLOT ? "mutator " : "", moved(word, MPHEAP_FIRST_ADDRESS, first));
     }
 }
 

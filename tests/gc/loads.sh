@@ -2,10 +2,11 @@
 # tests/gc/loads.sh ARCHIVE: that the library's code reads a word of the heap by one load of 8 bytes, and once. A word beside writers may be
 # another one a moment later, and a wider load may see parts of two; no proof speaks of the machine's code.
 #
-# The marker tells by one subtraction whether a word lies in the heap's range of addresses: so in its functions each `lea -0x10000000(%W)`
-# where W was loaded last stands behind the load of a word of the heap. That has to be a plain mov into all of W, of an operand that nothing
-# else in the function uses (a second look at the word would); and no function of the marker may load a vector, but from its stack. What lies
-# on the stack, or far behind a pointer, is a field of the marker's own. It ends with how many places there are, of which it has to find some.
+# The marker tells by one subtraction whether a word lies in the heap's range of addresses: so in its functions each addition of the negated
+# first address to a register W where W was loaded last stands behind the load of a word of the heap. That has to be a plain mov into all of W,
+# of an operand that nothing else in the function uses (a second look at the word would); and no function of the marker may load a vector, but
+# from its stack. What lies on the stack, or far behind a pointer, is a field of the marker's own. It ends with how many places there are, of
+# which it has to find some. (0xffffab0000000000 is that address negated.)
 set -euo pipefail
 least=8
 room=$(mktemp -d)
@@ -21,7 +22,7 @@ awk -v least=$least '
     /^[0-9a-f]+ <.*>:$/ { ends(); name = $2; is_of_marker = name ~ /marker::/ }
     function ends(at) {
         for (at in loaded) if (used[at] != 1) { print name ": " at " is used " used[at] " times"; failed = 1 }
-        split("", loaded); split("", used); split("", from)
+        split("", loaded); split("", used); split("", from); split("", first)
     }
     !is_of_marker || !/^ +[0-9a-f]+:/ { next }
     {
@@ -35,11 +36,14 @@ awk -v least=$least '
         into = text ~ /,%[a-z0-9]+$/ ? substr(text, match(text, /%[a-z0-9]+$/)) : ""
         if (into ~ /%[xyz]mm/ && place != "" && place !~ /%rsp/) wrong("a vector is loaded")
     }
-    # The word that is looked at.
-    operation == "lea" && text ~ /-0x10000000\(%r[a-z0-9]+\),/ {
-        word = text
-        sub(/.*-0x10000000\(/, "", word)
-        sub(/\).*/, "", word)
+    # The word that is looked at: the number stands in another register.
+    { word = ""; split(text, part, /[(),]+/) }
+    operation == "lea" && text ~ /\(%r[a-z0-9]+,%r[a-z0-9]+,1\),/ { word = part[2] in first ? part[3] : part[3] in first ? part[2] : "" }
+    operation == "add" && text ~ /[ \t]%r[a-z0-9]+,%r[a-z0-9]+$/ {
+        sub(/.*[ \t]/, "", part[1])
+        word = part[1] in first ? part[2] : part[2] in first ? part[1] : ""
+    }
+    word != "" {
         if (from[word] == "part") wrong("the load before it was none of a whole word")
         else if (from[word] != "") { loaded[from[word]] = 1; count++ }
     }
@@ -47,7 +51,12 @@ awk -v least=$least '
     into != "" && operation !~ /^(cmp|test|bt)/ {
         is_whole = operation == "mov" && into ~ /^%r/ && into !~ /^%r[0-9]+[dwb]$/
         is_field = place ~ /%rsp/ || place ~ /^0x([4-9a-f][0-9a-f]|[0-9a-f][0-9a-f][0-9a-f]+)\(/
-        from[into] = place == "" || is_field ? "" : is_whole ? place : "part"
+        copied = operation == "mov" && text ~ /[ \t]%r[a-z0-9]+,%r[a-z0-9]+$/ ? text : ""
+        sub(/^mov[ \t]+/, "", copied)
+        sub(/,.*/, "", copied)
+        from[into] = copied != "" ? from[copied] : place == "" || is_field || operation !~ /^mov/ ? "" : is_whole ? place : "part"
+        delete first[into]
+        if (text ~ /^movabs[ \t]+\$0xffffab0000000000,/) first[into] = 1
     }
     END {
         ends()
