@@ -38,6 +38,7 @@ int mpgc_described_kind(uintptr_t base)
 void mpgc_describe(void *object, size_t step, size_t bytes, GC_word descriptor, int kind)
 {
     mpgc_lock();
+    mpgc_know_more((uintptr_t)object);
     mpgc_add_record(&(struct described){ GC_HIDE_POINTER(object), .descriptor = descriptor, .step = step, .bytes = bytes, .kind = kind });
     mpgc_unlock();
 }

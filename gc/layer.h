@@ -1,7 +1,7 @@
 // What the audited files of libmpgc know of each other. x86-64, Linux, the GNU C library. Trusted, and not proved.
 //
 // Below them stands the proved heap of mpheap_c, above them a C program that knows bdwgc's gc.h, and may do what it likes. The proofs hold
-// for the program as far as these files keep what mpheap.h asks of a caller. They alone could lose an object or break memory: 2,547 lines
+// for the program as far as these files keep what mpheap.h asks of a caller. They alone could lose an object or break memory: 2,673 lines
 // of code in this folder, without blank ones and comments. Why names/ and kernel/ can't is said in front.h. This is all that they owe, in
 // the order in which they are best read, and the head of each says by which lines it pays:
 //
@@ -15,7 +15,7 @@
 //   spare.c                the same, while none does
 //   given.c                "the memory of a mapped heap's free pages may be given back to the system": of those alone
 //   requests.c runs.c      "any 64-bit word may be put at any 8-aligned address of an object that is kept at that moment": what is given
-//                          out is an object that a request has just made, once, and frees are the program's
+//   reuse.c                out is an object that a request has just made, or the program just freed, once, and frees are the program's
 //   roots.c threads.c      what keeps it: every word by which the program may still reach an object is a root at a collection's end,
 //   locals.c               of each thread
 //   collect.c cycle.c      the core's calls in an order that keeps the last three
@@ -58,6 +58,8 @@ struct thread {
     uint32_t number;                       // by which the kernel knows it
     volatile sig_atomic_t state;           // enum thread_state
     volatile bool is_suspended;            // by the program
+    volatile sig_atomic_t takes_back;      // what it frees (reuse.c), or its runs change
+    uint64_t taken_back;                   // so many words since the last collection: a figure alone
     bool is_detached;                      // nobody will ask what it answers
     unsigned holders;                      // so many are asking for it
     unsigned goodbyes;
@@ -86,7 +88,10 @@ struct layer {
     size_t size;                       // those that were ever used, of which the program is told
     uint64_t ended;                    // so many collections have
     uint8_t kind[MAX_PAGES];           // enum page_kind
-    uint8_t granules[MAX_PAGES];       // of each object on the page, where the last one there was of a run; else 0: a figure alone
+    uint8_t granules[MAX_PAGES];       // of each object on the page, where they are no more than those of runs; else 0
+    uint8_t has_more[MAX_PAGES];       // more is known of an object there, or was, than mpgc_take_back asks for
+    uint32_t filled[MAX_PAGES];        // behind how many collections, and one, the page's objects were last given to runs
+    uint64_t young[MAX_PAGES * PAGE / GRANULE / 64];  // and which: a bit a granule, at their bases, but not of those freed since
     volatile uint8_t is_closed[MAX_PAGES];
     volatile uint8_t is_noted[MAX_PAGES];
     uint16_t pins[MAX_PAGES];          // so many threads have the kernel write there: it makes no fault, so the page stays open, and dirty
@@ -194,8 +199,15 @@ static inline void mpgc_call_ends(void)
 
 // requests.c and runs.c
 HIDDEN void mpgc_free_in(uint64_t base);
+HIDDEN extern const uint8_t mpgc_cells[RUN_GRANULES + 1];
 HIDDEN bool mpgc_fill_run(struct run *run, size_t granules, enum page_kind kind);
 HIDDEN void mpgc_push_runs(const struct thread *thread, void (*push)(uint64_t word));
+
+// reuse.c
+HIDDEN void mpgc_note_young(const uint64_t *bases, uint64_t count);
+HIDDEN void mpgc_note_freed(uintptr_t base);
+HIDDEN bool mpgc_take_back(uintptr_t base);
+HIDDEN bool mpgc_is_in_run(uintptr_t base);
 
 // Counted under threads.
 // locals.c

@@ -76,6 +76,7 @@ static int set_link(void **word, const void *object, bool is_long)
     struct link *one = *at ? (struct link *)*at : malloc(sizeof *one);
     if (!one) return GC_NO_MEMORY;
     one->object = GC_HIDE_POINTER(base);
+    mpgc_know_more(base);
     if (*at) return GC_DUPLICATE;
     one->entry.number = GC_HIDE_POINTER(word) - is_long;
     mpgc_put(&links, &one->entry);

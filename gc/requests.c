@@ -34,6 +34,8 @@ void mpgc_free_in(uint64_t base)
     if (status != MPHEAP_OK) mpgc_stop("GC_free of what isn't the beginning of an object");
 }
 
+static size_t granules_of(size_t words) { return (words + GRANULE / WORD - 1) / (GRANULE / WORD); }
+
 // An object of its own request, whose pages are known; 0 where there is no room.
 static uint64_t ask(size_t words, enum page_kind kind)
 {
@@ -42,7 +44,8 @@ static uint64_t ask(size_t words, enum page_kind kind)
     CALL(status, kind == ORDINARY ? mpheap_alloc_base(&mpgc.heap, mpgc.slot, INTO, words, &base)
                                   : mpheap_alloc_pointer_free_base(&mpgc.heap, mpgc.slot, INTO, words, &base));
     if (status != MPHEAP_OK) return 0;
-    mpgc.granules[mpgc_page_of(base)] = 0;
+    size_t granules = granules_of(words);
+    mpgc.granules[mpgc_page_of(base)] = granules > RUN_GRANULES ? 0 : mpgc_cells[granules];
     bool is_known = mpgc.kind[mpgc_page_of(base)] == kind && words <= PAGE / WORD;
     if (LIKELY(is_known) || mpgc_learn(base, words, kind)) return base;
     mpgc_free_in(base);
@@ -55,8 +58,6 @@ static size_t words_of(size_t bytes)
     size_t words = (bytes + extra() + WORD - 1) / WORD;
     return words == 0 ? 1 : words;
 }
-
-static size_t granules_of(size_t words) { return (words + GRANULE / WORD - 1) / (GRANULE / WORD); }
 
 // The next object of a run of this thread, or 0. It is passed by one instruction, when it is in a register already: so no signal handler
 // is given the same one, however many a handler takes, and the run keeps it before (mpgc_push_runs), and the register from then on. The
@@ -73,11 +74,11 @@ __attribute__((always_inline)) static inline uint64_t next_of(struct run *run)
     return base;
 }
 
-// One object, of a run where it is small; 0 where there is no room.
+// One object, of a run where it is small, and where the thread isn't about to change one; 0 where there is no room.
 static uint64_t take(size_t words, enum page_kind kind)
 {
     size_t granules = granules_of(words);
-    if (granules > RUN_GRANULES) {
+    if (granules > RUN_GRANULES || mpgc_self->takes_back) {
         uint64_t alone = ask(words, kind);
         if (alone != 0) mpgc_figures.since += words;
         return alone;
@@ -160,12 +161,11 @@ static size_t words_at(uint64_t base)
 }
 
 // Freed last: from then on a signal's handler may be given what lies there, and what is known of it is of the new object.
-void GC_free(void *object)
+__attribute__((noinline)) static void free_by_core(uint64_t base)
 {
-    if (!object) return;
-    uint64_t base = (uintptr_t)object;
     mpgc_enter();
     mpgc_lock();
+    if (mpgc_is_in_run(base)) mpgc_stop("GC_free of what was freed before");
     size_t words = words_at(base);
     mpgc_forget_finalizer(base);
     mpgc_forget_described(base);
@@ -174,8 +174,14 @@ void GC_free(void *object)
         mpgc_set_uncollectable(base, false);
         GC_non_gc_bytes -= words * WORD;
     }
+    mpgc_note_freed(base);
     mpgc_free_in(base);
     mpgc_unlock();
+}
+
+void GC_free(void *object)
+{
+    if (object && !mpgc_take_back((uintptr_t)object)) free_by_core((uintptr_t)object);
 }
 
 // What stood in the object, in a larger or much smaller one of the same kind, which stays if that one did.

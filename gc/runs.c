@@ -32,7 +32,7 @@ static uint64_t ask(uint64_t *bases, size_t words, enum page_kind kind)
 }
 
 // Of so many granules the core makes an object of so many.
-static const uint8_t cells[RUN_GRANULES + 1] = { 0, 1, 2, 3, 4, 6, 6, 8, 8, 12, 12, 12, 12, 16, 16, 16, 16 };
+const uint8_t mpgc_cells[RUN_GRANULES + 1] = { 0, 1, 2, 3, 4, 6, 6, 8, 8, 12, 12, 12, 12, 16, 16, 16, 16 };
 
 static bool is_known(uint64_t base, size_t words, enum page_kind kind)
 {
@@ -44,11 +44,14 @@ static bool is_known(uint64_t base, size_t words, enum page_kind kind)
 static void publish(struct run *run, const uint64_t *bases, uint64_t count)
 {
     mpgc_call_begins();
+    mpgc_self->takes_back = 1;
     run->next = run->end;
     atomic_signal_fence(memory_order_seq_cst);
     for (uint64_t k = 0; k < count; k++) run->bases[(run->end + k) % RUN_OBJECTS] = bases[k];
     atomic_signal_fence(memory_order_seq_cst);
     run->end += count;
+    atomic_signal_fence(memory_order_seq_cst);
+    mpgc_self->takes_back = 0;
     mpgc_call_ends();
 }
 
@@ -60,16 +63,17 @@ bool mpgc_fill_run(struct run *run, size_t granules, enum page_kind kind)
     uint64_t bases[RUN_OBJECTS];
     size_t words = granules * (GRANULE / WORD);
     uint64_t known = 0, ended = mpgc.ended, count = ask(bases, words, kind);
-    while (known < count && is_known(bases[known], words, kind)) mpgc.granules[mpgc_page_of(bases[known++])] = cells[granules];
+    while (known < count && is_known(bases[known], words, kind)) mpgc.granules[mpgc_page_of(bases[known++])] = mpgc_cells[granules];
     if (ended != mpgc.ended) return run->next < run->end;
     for (uint64_t k = known; k < count; k++) mpgc_free_in(bases[k]);
+    mpgc_note_young(bases, known);
     publish(run, bases, known);
     mpgc_figures.since += known * words;
     return known > 0;
 }
 
 // Words that count as asked for, and weren't yet.
-size_t mpgc_words_in_runs(void)
+UNSEEN size_t mpgc_words_in_runs(void)
 {
     size_t words = 0;
     mpgc_lock();
@@ -85,6 +89,7 @@ size_t mpgc_words_in_runs(void)
 void mpgc_push_runs(const struct thread *thread, void (*push)(uint64_t word))
 {
     const struct run *all = thread->runs[0];
+    uint64_t more = thread->takes_back ? 1 : 0;  // it is behind the last
     for (size_t k = 0; k < 2 * (RUN_GRANULES + 1); k++)
-        for (uint64_t number = all[k].next; number < all[k].end; number++) push(all[k].bases[number % RUN_OBJECTS]);
+        for (uint64_t number = all[k].next; number < all[k].end + more; number++) push(all[k].bases[number % RUN_OBJECTS]);
 }

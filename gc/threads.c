@@ -36,6 +36,7 @@ static void unlink_record(struct thread *record)
 {
     struct thread **at = &mpgc.threads;
     mpgc_drop_pins(record);
+    mpgc_figures.total += record->taken_back;
     while (*at && *at != record) at = &(*at)->next;
     if (*at) *at = record->next;
     if (record != &mpgc.first) free(record);

@@ -74,7 +74,7 @@ if command -v clang >"$room/said"; then CC=clang build "$room/clang"; else skip 
 . "$top/tests/gc/parts/names.sh"
 
 # Each function, each place of roots, and what stands round the barrier.
-for test in functions settings macros limits links leaks unmapped finalizers kinds roots barrier kernel signals moments process shadow threads world \
+for test in functions settings macros limits links frees leaks unmapped finalizers kinds roots barrier kernel signals moments process shadow threads world \
     registering together collector stacks; do
     "${c[@]}" "$top/tests/gc/$test.c" "-L$room" -lmpgc "-Wl,-rpath,$room" -pthread -o "$room/$test" 2>"$room/said"
     is "$test is built" "" "$(cat "$room/said")"
@@ -87,6 +87,9 @@ counted macros "$room/macros"
 counted limits "$room/limits"
 counted links "$room/links"
 counted "links, in small steps" env GC_ENABLE_INCREMENTAL=1 "$room/links"
+counted frees "$room/frees"
+counted "frees, in small steps" env GC_ENABLE_INCREMENTAL=1 "$room/frees"
+counted "frees, beside the collector's thread" env GC_COLLECTOR_THREAD=1 "$room/frees"
 counted leaks "$room/leaks"
 for test in unmapped finalizers kinds registering; do
     counted "$test" "$room/$test"
@@ -110,21 +113,7 @@ done
 counted "world" "$room/world" "$room/loaded_local.so"
 counted "world, in small steps" env INCREMENTAL=1 "$room/world" "$room/loaded_local.so"
 "${c[@]}" -no-pie "$top/tests/gc/process.c" "-L$room" -lmpgc "-Wl,-rpath,$room" -o "$room/fixed" 2>"$room/said"
-# The kernel puts what such a program gets by brk within a GiB behind it: in one start of some sixty where the heap has to be, of which
-# libmpgc says that it isn't free. Then it is started anew.
-cat >"$room/started" <<'START'
-#!/bin/sh
-for start in 1 2 3 4 5; do
-    "$@" >"$0.out" 2>"$0.err"
-    status=$?
-    grep -q 'there is no memory at 0x10000000' "$0.err" || break
-done
-cat "$0.out"
-cat "$0.err" >&2
-exit "$status"
-START
-chmod +x "$room/started"
-counted "process, at fixed addresses" "$room/started" "$room/fixed" "$room/loaded.so"
+counted "process, at fixed addresses" "$room/fixed" "$room/loaded.so"
 for test in barrier kernel signals; do
     if "${c[@]}" -DWITHOUT_SYSCALLS "$top/tests/gc/$test.c" "$room/libmpgc.a" -pthread -o "$room/archived" 2>"$room/said"; then
         counted "$test, of the archive" "$room/archived"

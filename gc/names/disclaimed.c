@@ -21,6 +21,7 @@ void *mpgc_note_disclaimed(void *object, int kind)
     struct object *larger = count < room ? all : realloc(all, (2 * room + 64) * sizeof *all);
     if (larger && count == room) room = 2 * room + 64;
     if (larger) all = larger;
+    mpgc_know_more((uintptr_t)object);
     if (larger) all[count++] = (struct object){ GC_HIDE_POINTER(object), kind, false };
     GC_alloc_unlock();
     return object;

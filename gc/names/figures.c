@@ -51,11 +51,11 @@ size_t GC_get_free_bytes(void)
 }
 UNSEEN size_t GC_get_bytes_since_gc(void)
 {
-    size_t left = mpgc_words_in_runs();
-    return mpgc_figures.since > left ? (mpgc_figures.since - left) * WORD : 0;
+    size_t left = mpgc_words_in_runs(), asked = mpgc_figures.since + mpgc_words_taken_back(false);
+    return asked > left ? (asked - left) * WORD : 0;
 }
-UNSEEN size_t GC_get_expl_freed_bytes_since_gc(void) { return mpgc_figures.freed * WORD; }
-UNSEEN size_t GC_get_total_bytes(void) { return (mpgc_figures.total + mpgc_figures.since - mpgc_words_in_runs()) * WORD; }
+UNSEEN size_t GC_get_expl_freed_bytes_since_gc(void) { return (mpgc_figures.freed + mpgc_words_taken_back(false)) * WORD; }
+UNSEEN size_t GC_get_total_bytes(void) { return mpgc_figures.total * WORD + GC_get_bytes_since_gc(); }
 size_t GC_get_obtained_from_os_bytes(void) { return mpgc_pages() * PAGE; }
 UNSEEN GC_word GC_get_non_gc_bytes(void) { return GC_non_gc_bytes; }
 void GC_set_non_gc_bytes(GC_word bytes) { GC_non_gc_bytes = bytes; }

@@ -110,6 +110,7 @@ static void set(void *object, GC_finalization_proc function, void *data, GC_fina
     struct entry *made = is_object && function ? make(object, function, data, order) : NULL;
     struct entry **at = place_of(base), *was = is_object && *at && (made || !function) ? take(at) : NULL;
     if (made) put(made);
+    if (made) mpgc_know_more(base);
     count += (made != NULL) - (size_t)(was != NULL);
     GC_alloc_unlock();
     if (old) *old = was ? was->function : NULL;

@@ -44,6 +44,7 @@ void *mpgc_note_place(void *object, size_t bytes, va_list where)
     GC_alloc_lock();
     if (!places) places = calloc(CHAINS, sizeof *places);
     mpgc_forget_place((uintptr_t)object);
+    mpgc_know_more((uintptr_t)object);
     if (one) *one = (struct place){ .hidden = GC_HIDE_POINTER(object), .file = va_arg(where, const char *), .bytes = bytes };
     if (one) one->line = va_arg(where, int);
     if (one && places) put(one);

@@ -75,7 +75,8 @@ void mpgc_set_budget(void)
     size_t used = mpgc_used_pages();
     set_budget_for(used - mpgc_pending_pages() / 2);
     full = used < allowed ? allowed : used < allowed + allowed / 4 ? used : allowed + allowed / 4;
-    mpgc_figures.total += mpgc_figures.since - left;
+    uint64_t asked = mpgc_figures.since + mpgc_words_taken_back(true);
+    if (asked > left) mpgc_figures.total += asked - left;
     mpgc_figures.since = left;
     mpgc_figures.freed = 0;
     mpgc_figures.next = left + BETWEEN_LOOKS;

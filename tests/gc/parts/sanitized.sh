@@ -12,7 +12,7 @@ if echo 'int main(void) { return 0; }' | cc "${sanitizers[@]}" -x c - -o "$room/
     unset ASAN_OPTIONS
     # AddressSanitizer has the C library's calls of signals to itself: so what stands round these runs under the other one alone.
     build "$room/undefined" "${sanitizers[@]/address,/}"
-    for test in functions limits kernel signals barrier; do
+    for test in functions limits frees kernel signals barrier; do
         "${c[@]}" -fsanitize=undefined "$top/tests/gc/$test.c" "-L$room/undefined" -lmpgc "-Wl,-rpath,$room/undefined" -pthread \
             -o "$room/undefined/$test" 2>"$room/said" || is "$test, sanitized" built "$(head -n 3 "$room/said")"
         counted "$test, sanitized" "$room/undefined/$test"
