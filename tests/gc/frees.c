@@ -142,8 +142,8 @@ static void handle(int number)
     if (!may_come) return;
     may_come = 0;
     uint64_t **at = &held[turn++ % 8], *next = GC_malloc(63);
-    fill(next, 8);
-    if (*at) drop(*at, 8);
+    fill(next, 7);
+    if (*at) drop(*at, 7);
     *at = next;
 }
 
@@ -155,11 +155,11 @@ static void free_often(int rounds)
     for (int k = 0; k < RUN; k++) (void)GC_malloc(63);
     for (int k = 0; k < rounds; k++) {
         uint64_t *object = GC_malloc(63), *other = GC_malloc(63);
-        fill(object, 8);
-        fill(other, 8);
-        drop(other, 8);
+        fill(object, 7);
+        fill(other, 7);
+        drop(other, 7);
         may_come = 1;
-        drop(object, 8);
+        drop(object, 7);
         may_come = 0;
     }
     GC_enable();
