@@ -106,10 +106,17 @@ void mpgc_grant(size_t pages)
 // No collection begins but those that the program asks for.
 bool mpgc_is_off(void) { return GC_dont_gc || GC_get_disable_automatic_collection(); }
 
-static uint64_t asked_for(void)
+// Of what was asked for since, what wasn't freed. By this pages fill; but as with bdwgc a collection is due by no less than an eighth of it.
+static uint64_t still_there(void)
 {
     uint64_t since = mpgc_figures.since, freed = mpgc_figures.freed;
-    return freed > since - since / 8 ? since / 8 : since - freed;
+    return since > freed ? since - freed : 0;
+}
+
+static uint64_t asked_for(void)
+{
+    uint64_t least = mpgc_figures.since / 8, left = still_there();
+    return left < least ? least : left;
 }
 
 // Words that are asked for before so many pages are taken, but no more than these. A page is hardly taken for less than half of its words.
@@ -131,7 +138,7 @@ static bool has_filled_its_pages(void)
         full = allowed;
     }
     is_ripe = true;
-    uint64_t asked = mpgc_figures.marked + asked_for(), room = allowed * (PAGE / WORD);
+    uint64_t asked = mpgc_figures.marked + still_there(), room = allowed * (PAGE / WORD);
     if (used > full || used >= most || asked >= room) return true;
     unfilled_until = mpgc_figures.since + words_before((full < most ? full : most) - used, room - asked);
     return false;
