@@ -144,11 +144,13 @@ static bool has_filled_its_pages(void)
     return false;
 }
 
+// A cycle needs room while it marks, so it begins before pages are filled, but not where nearly all is freed.
 static bool is_due(void)
 {
     if ((is_incremental && mpgc_is_in_cycle()) || mpgc_figures.entries > mpgc_figures.most_entries) return true;
     uint64_t due = mpgc_is_beside() ? budget / EARLY : budget;
-    return asked_for() >= due && (makes_steps() || has_filled_its_pages());
+    if (asked_for() < due) return false;
+    return (makes_steps() && still_there() >= due) || has_filled_its_pages();
 }
 
 static enum due step_or_collection(void)
