@@ -101,7 +101,7 @@ UNSEEN bool mpgc_take_back(uintptr_t base)
     if (!self || self->takes_back || !mpgc_is_inside(base)) return false;
     size_t page = mpgc_page_of(base), granules = mpgc.granules[page];
     if (granules == 0 || mpgc.has_more[page] || !is_young(base)) return false;
-    if (mpgc_is_uncollectable(base) || is_empty((const uint64_t *)base, granules)) return false;
+    if ((mpgc.reserved > 0 && mpgc_is_uncollectable(base)) || is_empty((const uint64_t *)base, granules)) return false;
     struct run *run = run_for(self, granules, mpgc.kind[page]);
     return run && put_back(self, run, base, granules);
 }
