@@ -113,14 +113,14 @@ UNSEEN static bool has(const struct run *run, uintptr_t base)
     return number < run->end;
 }
 
-// Whether a run has the object, so that the program hasn't. The lock is held.
+// Whether a run has the object, so that the program hasn't. The lock is held. What a thread had that ended without a word may be another's.
 UNSEEN bool mpgc_is_in_run(uintptr_t base)
 {
     size_t granules = mpgc_is_inside(base) ? mpgc.granules[mpgc_page_of(base)] : 0;
     if (granules == 0 || base % GRANULE != 0 || base % PAGE + granules * GRANULE > PAGE || !is_empty((const uint64_t *)base, granules)) return false;
     enum page_kind kind = mpgc.kind[mpgc_page_of(base)];
     for (struct thread *one = mpgc.threads; one; one = one->next)
-        for (size_t k = least[granules]; k <= granules; k++)
+        for (size_t k = least[granules]; k <= granules && one->state != ENDED; k++)
             if (has(mpgc_run_of(one, k, kind), base)) return true;
     return false;
 }

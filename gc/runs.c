@@ -86,6 +86,14 @@ UNSEEN size_t mpgc_words_in_runs(void)
     return words;
 }
 
+// What the thread has and didn't give out, the core frees, since nobody frees it else. The lock is held.
+void mpgc_empty_runs(struct thread *thread)
+{
+    struct run *all = thread->runs[0];
+    for (size_t k = 0; k < 2 * (RUN_GRANULES + 1); k++)
+        for (; all[k].next < all[k].end; all[k].next++) mpgc_free_in(all[k].bases[all[k].next % RUN_OBJECTS]);
+}
+
 void mpgc_push_runs(const struct thread *thread, void (*push)(uint64_t word))
 {
     const struct run *all = thread->runs[0];

@@ -155,6 +155,7 @@ static void unlink_if_over(struct thread *record)
 static void forget(struct thread *self)
 {
     mpgc_lock();
+    mpgc_empty_runs(self);
     self->state = ENDED;
     mpgc_self = NULL;
     mpgc_drop_pins(self);

@@ -2,6 +2,8 @@
  * The same source runs over bdwgc where that is installed, with -DOTHER. */
 #define _GNU_SOURCE
 #define GC_DEBUG
+#define GC_THREADS
+#include <pthread.h>
 #include <stdint.h>
 #include "gc.h"
 #include "check.h"
@@ -61,6 +63,16 @@ static __attribute__((noinline)) void leave(size_t bytes, int is_kept, int is_fr
 static void leaves(void) { leave(24, 0, 0); }
 static void keeps(void) { leave(24, 1, 0); }
 static void frees(void) { leave(24, 0, 1); }
+static void *free_all(void *data)
+{
+    for (int k = 0; k < LEAKS; k++) leave(24, 0, 1);
+    return data;
+}
+static void frees_in_thread(void)
+{
+    pthread_t thread;
+    if (pthread_create(&thread, NULL, free_all, NULL) == 0) pthread_join(thread, NULL);
+}
 static void leaves_twice(void)
 {
     leave(24, 0, 0);
@@ -93,6 +105,7 @@ int main(void)
     CHECK(lines_with(lines, "leaks.c:") <= LEAKS);
     CHECK(*said_by(keeps) == 0);
     CHECK(*said_by(frees) == 0);
+    CHECK(*said_by(frees_in_thread) == 0);
     lines = said_by(leaves_twice);
     CHECK(lines_with(lines, "sz= 24,") >= LEAKS - 2 && lines_with(lines, "sz= 24,") <= LEAKS && lines_with(lines, "sz= 48,") >= LEAKS - 2);
     CHECK(lines_with(said_by(leaves_list), "sz= 16, NORMAL") >= LEAKS - 2);
