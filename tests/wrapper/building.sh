@@ -14,7 +14,7 @@ build_shows_its_way() {
     is "a build: the archive and libmpgc" "yes yes" \
         "$(test -f "$tree/crates/mpheap_c/out/libmpheap.a" && echo yes) $(test -f "$tree/out/libmpgc.so" && echo yes)"
     has "a build: how long, beforehand" "minutes" "$(head -n 1 "$room/err")"
-    is "a build: rt's one call" "tree ci" "$(calls)"
+    is "a build: rt's two calls, the second of them for the library" "$(lines "tree ci" "library ci")" "$(calls)"
     is "a build: what was made, at the end, and no progress where there is no terminal" "mpheap: made: mpheap replay record draw c gc" \
         "$(tail -n +2 "$room/err")"
     has "a build: how long each crate took is kept" "words " "$(cat "$tree/out/took")"
