@@ -102,7 +102,7 @@ static uint32_t gc_no(mpheap *heap, const line *l, uint64_t *word) {
 }
 
 static const call calls[] = {
-    { "detach", "", NOTHING, make_detach }, { "set", "rn", NOTHING, make_set },
+    { "detach", "", NOTHING, make_detach }, { "set", "rw", NOTHING, make_set },
     { "copy", "rr", NOTHING, make_copy },   { "add", "rrn", NOTHING, make_add },
     { "sub", "rrr", NOTHING, make_sub },    { "get", "r", WORD, make_get },
     { "push", "r", NOTHING, make_push },    { "pop", "r", WORD, make_pop },
