@@ -111,7 +111,10 @@ show_run() {
 bring() {
     local place from
     grep -q "^rt: $1 \(proved$\|is kept: \)" "$room/told" || return 0
-    [[ $1 != mpheap_c ]] || by_tools "$here/mpheap build c" "$here/c/library" "$tree" || return 0
+    if [[ $1 = mpheap_c ]]; then
+        note "the heap for C begins at an address of its own: what it is made from is proved there too, where that isn't kept"
+        by_tools "$here/mpheap build c" "$here/c/library" "$tree" || return 0
+    fi
     place=$(built "$1")
     from=$tree${place#"$here"}
     [[ -f $from ]] || return 0
