@@ -22,6 +22,13 @@ agrees() {
     fi
 }
 
+# says STATUS TEXT COMMAND..: the command ends with the status, and says this alone on standard error.
+says() {
+    local status=0
+    "${@:3}" >"$room/shown" 2>"$room/err" || status=$?
+    [ "$status: $(cat "$room/err")" = "$1: $2" ] || { echo "status $status: $(cat "$room/err")" && false; }
+}
+
 replies() {
     python3 -c 'import json, sys; [print(json.loads(line)["r"]) for line in list(open(sys.argv[1]))[1:]]' "$1"
 }
@@ -102,5 +109,9 @@ done
 agrees "the words that steps of marking read" python3 "$top/tests/draw/looked.py" check "$room/draw" "$room/told"
 agrees "the traces of runs" python3 "$top/tests/draw/judged.py" "$room/runs" "$room/replied" "$room/traces"
 agrees "what is said of runs" is_said
+printf 'attach\n0 get 16\n' >"$room/bad"
+printf 'attach => mutator 0\nnonsense\n' >"$room/bad_run"
+agrees "which line of a script is bad" says 2 "bad line 2" "$(build_of draw)" --pages 4 "$room/bad"
+agrees "which line of a run is none" says 2 "line 2: not a line of a run" "$(build_of draw)" --pages 4 --run "$room/bad_run"
 echo "draw: $passed passed, $failed failed"
 [ "$failed" = 0 ] && [ "$passed" -gt 2 ]
