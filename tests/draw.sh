@@ -111,7 +111,7 @@ agrees "the traces of runs" python3 "$top/tests/draw/judged.py" "$room/runs" "$r
 agrees "what is said of runs" is_said
 printf 'attach\n0 get 16\n' >"$room/bad"
 printf 'attach => mutator 0\nnonsense\n' >"$room/bad_run"
-agrees "which line of a script is bad" says 2 "bad line 2" "$(build_of draw)" --pages 4 "$room/bad"
-agrees "which line of a run is none" says 2 "line 2: not a line of a run" "$(build_of draw)" --pages 4 --run "$room/bad_run"
+agrees "which line of a script is bad" says 2 "bad line 2" "${MPHEAP_PROGRAMS:-$top/crates/draw/out}/draw" --pages 4 "$room/bad"
+agrees "which line of a run is none" says 2 "line 2: not a line of a run" "${MPHEAP_PROGRAMS:-$top/crates/draw/out}/draw" --pages 4 --run "$room/bad_run"
 echo "draw: $passed passed, $failed failed"
 [ "$failed" = 0 ] && [ "$passed" -gt 2 ]
