@@ -1,5 +1,5 @@
 -- How many bits of words are set, where words of 0 are passed over.
-use Rattle.std.proofs.Common.{◌≡◌, ℕ, ◌+◌, ◌-◌, ◌*◌, ◌/◌, ◌^◌, ◌<◌, ◌≤◌, false, List, length, get_or, sym, ap, ◌∙◌, arith}
+use Rattle.std.proofs.Common.{◌≡◌, ℕ, ◌+◌, ◌-◌, ◌*◌, ◌/◌, ◌^◌, ◌<◌, ◌≤◌, false, List, get_or, sym, ap, ◌∙◌, arith}
 use Rattle.std.specs.Int.RustNames.{count_ones}
 use Rattle.words.specs.Bits.{bits, members_between, IsCount}
 use Rattle.words.proofs.Rows.{length-bits, get_or-bits}

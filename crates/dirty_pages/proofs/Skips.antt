@@ -1,10 +1,10 @@
 -- The lowest bit of a row of words, where words of 0 are passed over.
-use Rattle.std.proofs.Common.{◌≡◌, ◌≢◌, ℕ, zero, ◌+◌, ◌*◌, ◌/◌, ◌%◌, ◌^◌, ◌<◌, ◌≤◌, true, false, ◌==◌, List, length, get_or, sym, ap, ◌∙◌, subst, arith, ⊎_elim}
+use Rattle.std.proofs.Common.{◌≡◌, ℕ, ◌+◌, ◌*◌, ◌/◌, ◌%◌, ◌^◌, ◌<◌, true, false, ◌==◌, List, length, get_or, sym, ap, ◌∙◌, subst, arith, ⊎_elim}
 use Rattle.std.specs.Int.{bit_at, trailing_zeros, w64}
 use Rattle.std.proofs.lemmas.Bool.{cases_lt}
 use Rattle.std.proofs.lemmas.List.{get_or_read}
 use Rattle.std.proofs.lemmas.Nat.Bits.{bit_at-trailing_zeros, bit_at_above}
-use Rattle.words.specs.Bits.{bit, IsFirstBit, IsFirstBitOf, HasNoBit}
+use Rattle.words.specs.Bits.{IsFirstBit, IsFirstBitOf, HasNoBit}
 use Rattle.words.proofs.Scans.{IsScanned, scan_start, scan_more, scan_found}
 use Rattle.dirty_pages.specs.Summary.{AreZerosFrom, IsLeastWord}
 use Rattle.dirty_pages.proofs.Pages.{clear_bit, bit_of}

@@ -17,6 +17,11 @@ pub record AreZeros (words : List ℕ) (n : ℕ) : Type 0 where
 pub record AreZerosFrom (words : List ℕ) (from : ℕ) : Type 0 where
   pub zero : (j : ℕ) → from ≤ j → slice_index_or words j 0 ≡ 0
 
+-- the words that aren't 0 are among the first
+pub record AreUsed (words : List ℕ) (used : ℕ) : Type 0 where
+  pub inside : used ≤ length words
+  pub rest : AreZerosFrom words used
+
 -- j is the least place from `low` on of a word that isn't 0
 pub record IsLeastWord (words : List ℕ) (low j : ℕ) : Type 0 where
   pub inside : j < length words

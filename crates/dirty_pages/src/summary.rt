@@ -1,17 +1,19 @@
 //! Words, and a row of bits that says which of them aren't 0. So words of 0 are passed over, 64 of them at a look.
 ghost use Rattle.std.specs.Prelude.{◌≡◌, ℕ, ◌*◌, ◌^◌, ◌<◌, ◌≤◌, List, length, slice_index_or, slice_set, true, IfOk, MatchOption};
 ghost use Rattle.words.specs.Bits.{IsCount, IsFirstBitOf};
-ghost use Rattle.dirty_pages.specs.Summary.{IsSummary, AreZeros, AreZerosBetween, AreZerosFrom, IsLeastWord, IsLeastWordBelow};
+ghost use Rattle.dirty_pages.specs.Summary.{IsSummary, AreUsed, AreZeros, AreZerosBetween, AreZerosFrom, IsLeastWord, IsLeastWordBelow};
 
 use std::alloc::{AllocError, Global};
 use std::marker::Model;
-use words::{BitRow, first_in};
+use words::{BitRow, clear_first, first_in};
 
 // Words, seen as their list.
 #[derive(Drop)]
 pub(crate) struct SummedWords {
     words: Vec<u64>,
     summary: BitRow,
+    // Each word from it on is 0.
+    used: usize,
 }
 
 impl Model for SummedWords {
@@ -19,23 +21,10 @@ impl Model for SummedWords {
 
     ghost view = { λ s. s.words.items };
 
-    ghost invariant = { λ s. IsSummary s.words.items s.summary };
+    ghost invariant = { λ s. IsSummary s.words.items s.summary × AreUsed s.words.items s.used };
 }
 
-// Makes the words 0 that their summary names.
-#[tactic(auto, using(crate::proofs::Clearing::clearing))]
-fn clear_named(words: &mut Vec<u64>, summary: &BitRow)
-    requires { IsSummary words.old.items summary.now }
-    ensures { AreZeros words.new.items (length words.old.items) }
-{
-    let mut from = 0;
-    while let Some(j) = summary.next(from) {
-        words[j] = 0;
-        from = j + 1;
-    }
-}
-
-#[tactic(auto, using(crate::proofs::Words::words))]
+#[tactic(auto, using(crate::proofs::Words::words, crate::proofs::Clearing::clearing))]
 impl SummedWords {
     // So many words of 0.
     pub(crate) fn new(alloc: Global, count: usize) -> Result<SummedWords, AllocError>
@@ -44,7 +33,11 @@ impl SummedWords {
     {
         let words = vec![in alloc; 0u64; count]?;
         let summary = BitRow::new(alloc, count)?;
-        Ok(SummedWords { words, summary })
+        Ok(SummedWords {
+            words,
+            summary,
+            used: 0,
+        })
     }
 
     // The word j.
@@ -65,21 +58,26 @@ impl SummedWords {
             self.summary.clear(j);
         } else {
             self.summary.set(j);
+            self.used = self.used.max(j + 1);
         }
     }
 
-    // Makes every word 0. Those that are 0 aren't written.
+    // Makes every word 0. Those behind the last that wasn't since the last time aren't looked at.
     pub(crate) fn clear_all(&mut self)
         ensures { AreZeros self.new (length self.old) }
     {
-        clear_named(&mut self.words, &self.summary);
-        self.summary.clear_all();
+        clear_first(&mut self.words, self.used);
+        self.summary.clear_below(self.used);
+        self.used = 0;
     }
 
     // The place of the first word from `from` on that isn't 0, found by the summary.
     pub(crate) fn next(&self, from: usize) -> Option<usize>
         ensures { MatchOption result (AreZerosFrom self.now from) (λ j. IsLeastWord self.now from j) }
     {
+        if from >= self.used {
+            return None;
+        }
         self.summary.next(from)
     }
 

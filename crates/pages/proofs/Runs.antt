@@ -1,8 +1,10 @@
 -- The search for a run of free pages, and the filling of one.
 use Rattle.std.proofs.Common.{◌≡◌, ℕ, ◌-◌, ◌<◌, ◌≤◌, Bool, true, false, List, length, get_or, sym, ap, ◌∙◌, arith, ⊎_elim}
+use Rattle.std.specs.Prelude.{Option, Some, None, MatchOption}
 use Rattle.std.proofs.lemmas.Bool.{cases_lt, false≢true}
 use Rattle.words.specs.Bits.{IsEmptyFrom, IsFirstFrom, IsFullFrom, IsFirstClearFrom}
-use Rattle.pages.specs.Runs.{IsFreeRun, IsFirstFreeRun, HasNoFreeRun, IsRunEnd, AreUsedBelow}
+use Rattle.pages.specs.Runs.{IsFreeRun, IsFirstFreeRun, HasNoFreeRun, IsFirstFreeRunFrom, HasNoFreeRunFrom, IsRunEnd}
+use Rattle.pages.specs.Hints.{HasNoRunBelow}
 
 -- no n consecutive pages are free that begin before the page low
 pub record IsSearched (row : List Bool) (n low : ℕ) : Type 0 where
@@ -11,20 +13,24 @@ pub record IsSearched (row : List Bool) (n low : ℕ) : Type 0 where
   pub none : (i : ℕ) → i < low → IsFreeRun row i n → ⊥
 
 -- a run begins at a free page
-begins_free : (row : List Bool) (i n : ℕ) → 0 < n → get_or row i false ≡ false → IsFreeRun row i n → ⊥
+pub begins_free : (row : List Bool) (i n : ℕ) → 0 < n → get_or row i false ≡ false → IsFreeRun row i n → ⊥
 begins_free row i n some taken run = false≢true (sym taken ∙ run.free i (omega arith) (omega arith))
 
-pub search_start : (row : List Bool) (n low : ℕ) → 0 < n → AreUsedBelow row low → IsSearched row n low
-search_start row n low some used = record { some = some; inside = used.inside; none = λ i lt run. begins_free row i n some (used.used i lt) run }
+pub search_start : (row : List Bool) (n low : ℕ) → 0 < n → HasNoRunBelow row n low → IsSearched row n low
+search_start row n low some none = record { some = some; inside = none.inside; none = none.none some }
 
-pub search_more : (row : List Bool) (n low first end : ℕ) → IsSearched row n low → IsFirstFrom row low first → IsRunEnd row first end → end - first < n → IsSearched row n end
-search_more row n low first end s next stop short = record {
+-- a run has the shorter one that begins where it does
+pub shorter : (row : List Bool) (i n m : ℕ) → m ≤ n → IsFreeRun row i n → IsFreeRun row i m
+shorter row i n m few run = let within = run.inside in record { inside = omega (arith, few, within); free = λ k from below. run.free k from (omega (arith, below, few)) }
+
+pub search_more : (row : List Bool) (n low most first end : ℕ) → IsSearched row n low → most ≤ n → IsFirstFreeRunFrom row low first most → IsRunEnd row first end → end - first < n → IsSearched row n end
+search_more row n low most first end s few next stop short = record {
   some = s.some;
   inside = stop.inside;
   none = λ i lt run. ⊎_elim
       (λ before. s.none i before run)
       (λ from. ⊎_elim
-      (λ between. begins_free row i n s.some (next.least i from between) run)
+      (λ between. next.lowest i from between (shorter row i n most few run))
       (λ inside.
       let within = run.inside in let past = stop.past in
       false≢true (sym (stop.stop (omega arith)) ∙ run.free end (omega arith) (omega arith)))
@@ -32,35 +38,39 @@ search_more row n low first end s next stop short = record {
       (cases_lt i low);
 }
 
-pub search_found : (row : List Bool) (n low first end : ℕ) → IsSearched row n low → IsFirstFrom row low first → IsRunEnd row first end → n ≤ end - first → IsFirstFreeRun row first n
-search_found row n low first end s next stop long =
+pub search_found : (row : List Bool) (n low most first end : ℕ) → IsSearched row n low → most ≤ n → IsFirstFreeRunFrom row low first most → IsRunEnd row first end → n ≤ end - first → IsFirstFreeRun row first n
+search_found row n low most first end s few next stop long =
     let inside = stop.inside in let some = s.some in
     record {
       run = record { inside = omega arith; free = λ k from below. stop.free k from (omega arith) };
-      lowest = λ j lt run. ⊎_elim (λ before. s.none j before run) (λ from. begins_free row j n s.some (next.least j from lt) run) (cases_lt j low);
+      lowest = λ j lt run. ⊎_elim (λ before. s.none j before run) (λ from. next.lowest j from lt (shorter row j n most few run)) (cases_lt j low);
     }
 
-pub search_end : (row : List Bool) (n low : ℕ) → IsSearched row n low → IsEmptyFrom row low → HasNoFreeRun row n
-search_end row n low s empty i run =
-    let within = run.inside in let some = s.some in
-    ⊎_elim (λ before. s.none i before run) (λ from. begins_free row i n s.some (empty i from (omega arith)) run) (cases_lt i low)
+pub search_end : (row : List Bool) (n low most : ℕ) → IsSearched row n low → most ≤ n → HasNoFreeRunFrom row low most → HasNoFreeRun row n
+search_end row n low most s few none i run = ⊎_elim (λ before. s.none i before run) (λ from. none i from (shorter row i n most few run)) (cases_lt i low)
+
+-- where n of them begin, some page is free
+pub begins_inside : (row : List Bool) (low i n : ℕ) → 0 < n → IsFirstFreeRunFrom row low i n → (i < length row) × (get_or row i false ≡ true)
+begins_inside row low i n some first = let within = first.run.inside in (omega (arith, some, within), first.run.free i (omega arith) (omega (arith, some)))
 
 pub no_pages : (row : List Bool) → IsFirstFreeRun row 0 0
 no_pages row = record { run = record { inside = omega arith; free = λ k a b. absurd (omega arith) }; lowest = λ j lt run. absurd (omega arith) }
 
-pub no_page : (row : List Bool) (low : ℕ) → AreUsedBelow row low → IsEmptyFrom row low → HasNoFreeRun row 1
-no_page row low used empty i run =
-    let within = run.inside in ⊎_elim (λ before. begins_free row i 1 (omega arith) (used.used i before) run) (λ from. begins_free row i 1 (omega arith) (empty i from (omega arith)) run) (cases_lt i low)
+no_page : (row : List Bool) (low : ℕ) → HasNoRunBelow row 1 low → IsEmptyFrom row low → HasNoFreeRun row 1
+no_page row low below empty i run =
+    let within = run.inside in ⊎_elim (λ before. below.none (omega arith) i before run) (λ from. begins_free row i 1 (omega arith) (empty i from (omega arith)) run) (cases_lt i low)
 
-pub first_page : (row : List Bool) (low i : ℕ) → AreUsedBelow row low → IsFirstFrom row low i → IsFirstFreeRun row i 1
-first_page row low i used next =
+first_page : (row : List Bool) (low i : ℕ) → HasNoRunBelow row 1 low → IsFirstFrom row low i → IsFirstFreeRun row i 1
+first_page row low i below next =
     let inside = next.inside in
     record {
-      run = record { inside = omega arith; free = λ k from below. let e : k ≡ i = omega arith in ap (λ m. get_or row m false) e ∙ next.member };
-      lowest = λ j lt run. ⊎_elim (λ before. begins_free row j 1 (omega arith) (used.used j before) run) (λ from. begins_free row j 1 (omega arith) (next.least j from lt) run) (cases_lt j low);
+      run = record { inside = omega arith; free = λ k from lt. let e : k ≡ i = omega arith in ap (λ m. get_or row m false) e ∙ next.member };
+      lowest = λ j lt run. ⊎_elim (λ before. below.none (omega arith) j before run) (λ from. begins_free row j 1 (omega arith) (next.least j from lt) run) (cases_lt j low);
     }
 
-pub ruleset one_page = (no_page, first_page)
+pub page_found : (row : List Bool) (low : ℕ) (found : Option ℕ) → HasNoRunBelow row 1 low → MatchOption found (IsEmptyFrom row low) (λ i. IsFirstFrom row low i) → MatchOption found (HasNoFreeRun row 1) (λ i. IsFirstFreeRun row i 1)
+page_found row low None below empty = no_page row low below empty
+page_found row low (Some i) below first = first_page row low i below first
 
 pub ruleset searching = (search_start, search_more, search_found, search_end, no_pages)
 

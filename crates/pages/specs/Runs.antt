@@ -16,6 +16,16 @@ pub record IsFirstFreeRun (row : List Bool) (i n : ℕ) : Type 0 where
 abbrev pub HasNoFreeRun : List Bool → ℕ → Type 0
 HasNoFreeRun row n = (i : ℕ) → IsFreeRun row i n → ⊥
 
+-- the lowest of these runs that begins at the page low or above
+pub record IsFirstFreeRunFrom (row : List Bool) (low i n : ℕ) : Type 0 where
+  pub from : low ≤ i
+  pub run : IsFreeRun row i n
+  pub lowest : (j : ℕ) → low ≤ j → j < i → IsFreeRun row j n → ⊥
+
+-- no n consecutive pages are free from the page low on
+abbrev pub HasNoFreeRunFrom : List Bool → ℕ → ℕ → Type 0
+HasNoFreeRunFrom row low n = (i : ℕ) → low ≤ i → IsFreeRun row i n → ⊥
+
 -- the pages from i on, n of them, have become b, and the others are as they were
 pub record IsFilled (old new : List Bool) (i n : ℕ) (b : Bool) : Type 0 where
   pub size : length new ≡ length old

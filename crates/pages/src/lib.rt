@@ -10,12 +10,14 @@
 #![tactic(auto)]
 
 mod count;
+mod hints;
 mod memory;
 mod moments;
 mod opening;
 mod pool;
 mod reader;
 mod run;
+mod starts;
 
 pub use count::Count;
 pub use memory::Memory;

@@ -4,9 +4,12 @@ ghost use Rattle.words.specs.declared.limits.TheConstants.{MOST_PAGES};
 ghost use Rattle.words.specs.Bits.{members, IsEmptyFrom, IsFirstClearFrom, IsFullFrom};
 ghost use Rattle.pages.specs.FreeRuns.{IsNextRun};
 ghost use Rattle.pages.specs.Opening.{IsOpenedWithin};
-ghost use Rattle.pages.specs.Runs.{IsFirstFreeRun, HasNoFreeRun, IsFilled, IsMask, IsRunEnd, AreAllFree, AreUsedBelow};
+ghost use Rattle.pages.specs.Runs.{IsFirstFreeRun, HasNoFreeRun, IsFilled, IsMask, IsRunEnd, AreAllFree};
+ghost use Rattle.pages.specs.Hints.{HasNoRunBelow};
 
+use crate::hints::Hints;
 use crate::opening::is_page_count;
+use crate::starts::next_start;
 use std::alloc::Global;
 use std::marker::Model;
 use words::{BitRow, OpenError, PageNo};
@@ -25,28 +28,27 @@ pub struct FreeRun {
 #[derive(Drop)]
 pub struct PagePool {
     free: BitRow,
-    // No page below it is free: a search begins there.
-    low: usize,
+    hints: Hints,
 }
 
 impl Model for PagePool {
     ghost use Rattle.std.specs.Prelude.{◌≤◌, Bool, List, length};
     ghost use Rattle.words.specs.declared.limits.TheConstants.{MOST_PAGES};
-    ghost use Rattle.pages.specs.Runs.{AreUsedBelow};
+    ghost use Rattle.pages.specs.Hints.{AreHints};
 
     ghost Value = { List Bool };
 
     ghost view = { λ p. p.free };
 
-    ghost invariant = { λ p. (length p.free ≤ MOST_PAGES) × AreUsedBelow p.free p.low };
+    ghost invariant = { λ p. (length p.free ≤ MOST_PAGES) × AreHints p.free p.hints };
 }
 
-// The lowest place of n free pages in a row, of which none below `low` is free. From the first free page on it looks for the first that is taken, and
-// goes on from there if the run between them is too short: both are found by whole words of the row.
+// The lowest place of n free pages in a row, of which none begin below `low`. Where n of them begin, or 64 of more, it looks for the first page that
+// is taken, and goes on from there if the run is too short: both are found by whole words of the row.
 #[tactic(auto, using(crate::proofs::Runs::searching))]
 fn find_run(row: &BitRow, low: usize, n: usize) -> Option<usize>
     requires small { length row.now ≤ MOST_PAGES }
-    requires used { AreUsedBelow row.now low }
+    requires none { HasNoRunBelow row.now n low }
     ensures { MatchOption result (HasNoFreeRun row.now n) (λ i. IsFirstFreeRun row.now i n) }
 {
     if n == 0 {
@@ -55,8 +57,9 @@ fn find_run(row: &BitRow, low: usize, n: usize) -> Option<usize>
     if n == 1 {
         return find_page(row, low);
     }
+    let most = n.min(64) as u32;
     let mut from = low;
-    while let Some(first) = row.next(from) {
+    while let Some(first) = next_start(row, from, most) {
         let end = run_end(row, first);
         if end - first >= n {
             return Some(first);
@@ -67,9 +70,8 @@ fn find_run(row: &BitRow, low: usize, n: usize) -> Option<usize>
 }
 
 // The lowest free page of a row: of a run of one page the end isn't looked for.
-#[tactic(auto, using(crate::proofs::Runs::one_page))]
 fn find_page(row: &BitRow, low: usize) -> Option<usize>
-    requires { AreUsedBelow row.now low }
+    requires { HasNoRunBelow row.now 1 low }
     ensures { MatchOption result (HasNoFreeRun row.now 1) (λ i. IsFirstFreeRun row.now i 1) }
 {
     row.next(low)
@@ -127,14 +129,6 @@ fn fill(row: &mut BitRow, first: usize, n: usize, free: bool)
     }
 }
 
-// Below which no page is free once n pages from `first` on are taken, of which that was the lowest place.
-fn low_after(low: usize, first: usize, n: u32) -> usize
-    requires { first < MOST_PAGES }
-    ensures { (result ≡ low) ⊎ ((n ≡ 1) × (result ≡ first + 1)) }
-{
-    if n == 1 { first + 1 } else { low }
-}
-
 #[tactic(auto, using(crate::proofs::Pools::pools))]
 impl PagePool {
     /// So many pages, each of them free.
@@ -147,7 +141,10 @@ impl PagePool {
         }
         let mut free = BitRow::new(alloc, pages as usize)?;
         fill(&mut free, 0, pages as usize, true);
-        Ok(PagePool { free, low: 0 })
+        Ok(PagePool {
+            free,
+            hints: Hints::new(),
+        })
     }
 
     /// The number of pages.
@@ -197,11 +194,13 @@ impl PagePool {
         ensures some { IfSome result (λ i. IsFirstFreeRun self.old i n × IsFilled self.old self.new i n false) }
         ensures none { IfNone result (HasNoFreeRun self.old n × (self.new ≡ self.old)) }
     {
-        let Some(first) = find_run(&self.free, self.low, n as usize) else {
+        let n = n as usize;
+        let Some(first) = find_run(&self.free, self.hints.start(n), n) else {
+            self.hints.missed(self.free.len(), n);
             return None;
         };
-        fill(&mut self.free, first, n as usize, false);
-        self.low = low_after(self.low, first, n);
+        fill(&mut self.free, first, n, false);
+        self.hints.taken(first, n);
         Some(first as u32)
     }
 
@@ -211,6 +210,6 @@ impl PagePool {
         ensures { IsFilled self.old self.new first n true }
     {
         fill(&mut self.free, first as usize, n as usize, true);
-        self.low = self.low.min(first as usize);
+        self.hints.given(first as usize, n as usize);
     }
 }

@@ -34,8 +34,8 @@ fn clear_words(words: &mut [u64])
     }
 }
 
-// Makes the first words 0.
-fn clear_first(words: &mut [u64], end: usize)
+/// Makes the words before the word `end` 0.
+pub fn clear_first(words: &mut [u64], end: usize)
     requires { end ≤ length words.old }
     ensures { IsZeroBelow words.old words.new end }
 {

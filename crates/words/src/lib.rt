@@ -20,7 +20,7 @@ mod numbers;
 mod refusal;
 mod scan;
 
-pub use bit_row::BitRow;
+pub use bit_row::{BitRow, clear_first};
 pub use cell_row::CellRow;
 pub use class::{CLASSES, Class, Kind, Placement, class_of};
 pub use count::ones_of;

@@ -1,4 +1,4 @@
-use Rattle.std.proofs.Common.{◌≡◌, ◌+◌, ◌*◌, ◌/◌, ◌≤◌, length, arith}
+use Rattle.std.proofs.Common.{arith}
 use Rattle.words.proofs.Scans.{first_of_row, none_of_row}
 use Rattle.dirty_pages.proofs.row.SummedRow.next.Goals as goal
 

@@ -1,4 +1,4 @@
-use Rattle.std.proofs.Common.{◌*◌, ◌-◌, ◌≤◌, length}
+use Rattle.std.proofs.Common.{◌*◌, ◌-◌, ◌≤◌}
 use Rattle.words.specs.Bits.{IsCount}
 use Rattle.dirty_pages.proofs.summary.SummedWords.ones_below.Given as goal
 

@@ -1,4 +1,4 @@
-use Rattle.std.proofs.Common.{◌≡◌, ◌+◌, ◌/◌, ◌∙◌, length, ap, sym, subst}
+use Rattle.std.proofs.Common.{◌+◌, ◌/◌, ◌∙◌, length, ap, sym, subst}
 use Rattle.std.proofs.lemmas.List.{with_items_is}
 use Rattle.words.specs.Bits.{bits, IsClear, IsZeroBelow}
 use Rattle.words.proofs.Rows.{cleared_below}
