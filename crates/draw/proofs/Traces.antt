@@ -1,22 +1,25 @@
 -- Lines of a text that are drawn, one after another.
-use Rattle.std.proofs.Common.{◌≡◌, ◌≢◌, ◌∙◌, ℕ, ◌+◌, ◌<◌, ◌≤◌, List, [], ◌∷◌, ◌++◌, length, take, drop, get_or, refl, sym, ap, subst, arith, Bool, true, false, cond, eqb, String}
-use Rattle.std.specs.Prelude.{Option, Some, None, Result, Ok, Err, OnOk, ⊤, not, slice_get}
-use Rattle.std.specs.Borrow.{Bor}
+use Rattle.std.proofs.Common.{◌≡◌, ◌∙◌, ℕ, ◌+◌, ◌≤◌, List, [], ◌∷◌, ◌++◌, length, take, drop, refl, sym, ap, subst, arith, Bool, true, false, cond, eqb, String}
+use Rattle.std.specs.Prelude.{codes, Option, Some, Result, Ok, Err, OnOk, ⊤, not, slice_get}
 use Rattle.std.specs.List.{onto_first}
 use Rattle.std.specs.declared.alloc.Global.{Global}
 use Rattle.std.specs.Io.KnownBytes.{Appends}
 use Rattle.std.proofs.lemmas.Grind.{flat_map-append}
 use Rattle.std.proofs.lemmas.List.{drop-drop, length-drop, length-take-le, take-append-drop, take_all}
-use Rattle.std.proofs.lemmas.List.Elements.{All-from_get_or, filter-append}
-use Rattle.std.proofs.lemmas.Str.Pattern.{IsSplitOnceResult, split_parts}
+use Rattle.std.proofs.lemmas.List.Elements.{filter-append}
 use Rattle.std.proofs.Math.Seq.{take-add}
 use Rattle.scripts.specs.Lines.{newline, lines_of}
 use Rattle.scripts.specs.Turns.{text_of}
-use Rattle.scripts.specs.Reading.{IsPlainLine}
-use Rattle.scripts.proofs.Texts.{at-front, lines_of-line, lines_of-last}
+use Rattle.scripts.proofs.Texts.{at-front}
 use Rattle.scripts.proofs.Bytes.{Appends-none, Appends-more}
 use Rattle.plain_core.specs.declared.wrongs.Wrong.{Wrong}
+use Rattle.replayer.specs.declared.hint.Hint.{Hint}
+use Rattle.scripts.specs.Grammar.{IsLineOf}
+use Rattle.written_runs.specs.declared.line.Line.{Line}
+use Rattle.written_runs.specs.declared.places.Places.TheVariants.{Classes}
+use Rattle.written_runs.specs.Reading.{IsBehind, IsHintText, IsRead}
 use Rattle.written_runs.specs.Told.{told_lines, is_comment}
+use Rattle.written_runs.specs.Written.{IsWritten, answer_of}
 use Rattle.tracing.specs.Telling.{TracerContents, IsNewTracer}
 use Rattle.draw.specs.RunDrawn.{IsRunDrawn, IsRefusalDrawn, AreSentences}
 use Rattle.written_runs.specs.declared.verdict.Judgement.{Judgement}
@@ -81,18 +84,25 @@ empty_of (x ∷ xs) e = absurd (omega (arith, e))
 pub no_line_behind : (text rest : List ℕ) (n : ℕ) → IsPast text rest n → length rest ≡ 0 → drop n (lines_of text) ≡ []
 no_line_behind text rest n past e = sym past.behind ∙ ap lines_of (empty_of rest e)
 
-plain_of : (line : List ℕ) → ((i : ℕ) → i < length line → get_or line i 0 ≢ newline) → IsPlainLine line
-plain_of line lacks = All-from_get_or (λ b. b ≢ newline) line 0 lacks
-
--- the first line of a text, where it was cut at its first newline
-pub cut_line : (text : List ℕ) (parts : Bor (List ℕ) × Bor (List ℕ)) → IsSplitOnceResult newline text (Some parts) → lines_of text ≡ parts.0.now ∷ lines_of parts.1.now
-cut_line text parts split =
-    let cut = split_parts newline text (Some parts) split (omega arith) in
-    ap lines_of cut.0 ∙ lines_of-line parts.0.now parts.1.now (plain_of parts.0.now cut.1)
-
--- where it has none, it is the only one
-pub last_line : (text : List ℕ) → 0 < length text → IsSplitOnceResult newline text None → lines_of text ≡ text ∷ []
-last_line text some split = lines_of-last text (plain_of text (split_parts newline text None split (omega arith))) some
+-- a line that was read is written of what it was read as
+pub read_written : (line : List ℕ) (l : Line) (hint : Hint) (n : ℕ) (asked : List ℕ) → asked ≡ l.command.now → IsRead Classes line l → ((text : List ℕ) → IsBehind Classes text l.behind → IsHintText Classes text hint n)
+    → (w : IsWritten line l.event l.reply hint) × (asked ≡ w.parts.command)
+read_written line l hint n asked is read of =
+    let told = of read.text read.behind in
+    let named : read.parts.command ≡ asked = read.names ∙ sym is in (
+      record {
+        parts = record {
+          command = asked;
+          is_command = subst (λ text. IsLineOf text l.event) named read.parts.is_command;
+          is_line = read.parts.is_line
+              ∙ ap (λ text. text ++ (codes " => " ++ (answer_of l.reply ++ read.text))) named
+              ∙ ap (λ behind. asked ++ (codes " => " ++ (answer_of l.reply ++ behind))) told.whole;
+          answers = read.parts.answers;
+        };
+        words = told.words;
+      },
+      refl,
+    )
 
 -- a line is drawn, and its record is written, where that goes well
 pub puts_one : {E : Type 0} (r : Result ⊤ E) (old new : TracerContents) (line text : List ℕ) (u v : Option (List ℕ)) → IsRunDrawn old line new text → OnOk r (Appends u v (text_of (text ∷ []))) → OnOk r (PutsRecords old (line ∷ []) new u v)

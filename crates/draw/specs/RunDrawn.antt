@@ -1,35 +1,18 @@
 -- What is drawn of a line of a run that was written down.
-use Rattle.std.specs.Prelude.{◌≡◌, ℕ, Option, Some, None, List, [], ◌∷◌, ◌++◌, codes, All, String, string_bytes}
+use Rattle.std.specs.Prelude.{◌≡◌, ℕ, Option, Some, None, List, [], ◌∷◌, ◌++◌, codes, String, string_bytes}
 use Rattle.std.specs.Option.{option_map}
 use Rattle.std.specs.declared.alloc.Global.{Global}
 use Rattle.heap_spec.specs.declared.event.Event.{Event}
 use Rattle.heap_spec.specs.declared.reply.Reply.{Reply}
-use Rattle.heap_spec.specs.Ranges.{IsWord}
 use Rattle.plain_core.specs.declared.wrongs.Wrong.{Wrong}
 use Rattle.plain_core.specs.declared.wrongs.Wrong.TheVariants.{IsMissing, StandsTwice, HasToStay, HasToGo}
 use Rattle.pages.specs.Memory.{word_index}
 use Rattle.replayer.specs.declared.hint.Hint.{Hint}
-use Rattle.scripts.specs.Grammar.{IsLineOf}
-use Rattle.written_runs.specs.Written.{IsAnswer, IsWritten, answer_of}
+use Rattle.written_runs.specs.Written.{IsWritten, answer_of}
 use Rattle.trace_lines.specs.declared.record.Objection.{Objection}
 use Rattle.trace_lines.specs.declared.record.Record.{Record}
 use Rattle.trace_lines.specs.Records.{record_text, refused_text}
 use Rattle.tracing.specs.Telling.{TracerContents, IsTold}
-use Rattle.draw.specs.declared.run_line.Guess.{Guess}
-use Rattle.draw.specs.declared.run_line.Open.{Open}
-use Rattle.draw.specs.declared.run_line.Open.TheVariants.{Nothing, Place, Bases}
-
--- what a reply leaves open has words for its numbers
-abbrev pub HasWords : Open → Type 0
-HasWords Nothing = Unit {0}
-HasWords (Place base) = IsWord base
-HasWords (Bases bases) = All IsWord bases.items
-
--- What is guessed of a line: the event of its command, a reply to that, and what the reply leaves open.
-pub record IsGuess (command : List ℕ) (g : Guess) : Type 0 where
-  pub is_command : IsLineOf command g.event
-  pub answers : IsAnswer g.event g.reply
-  pub words : HasWords g.left
 
 -- The line is written of an event, its reply and a hint. The tracer was told these, and no core; and the text is that of
 -- the line's command, its reply, and what the tracer says is different.

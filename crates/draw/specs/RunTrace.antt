@@ -1,8 +1,7 @@
 -- What is written of a run that was written down.
-use Rattle.std.specs.Prelude.{◌≡◌, ℕ, ◌+◌, ◌<◌, Option, Some, None, List, [], ◌∷◌, ◌++◌, codes, false, length, slice_get, take, String}
+use Rattle.std.specs.Prelude.{◌≡◌, ℕ, ◌+◌, Option, Some, List, [], ◌∷◌, ◌++◌, codes, false, length, slice_get, take, String}
 use Rattle.std.specs.declared.alloc.Global.{Global}
 use Rattle.std.specs.Io.KnownBytes.{Appends}
-use Rattle.scripts.specs.Lines.{lines_of}
 use Rattle.scripts.specs.Turns.{text_of}
 use Rattle.trace_lines.specs.Records.{head_text}
 use Rattle.written_runs.specs.declared.places.Places.TheVariants.{Classes}

@@ -13,7 +13,6 @@ ghost use Rattle.words.specs.declared.limits.TheConstants.{MAX_PAGES};
 mod drawing;
 mod reply;
 mod run_drawing;
-mod run_line;
 mod run_lines;
 mod run_printing;
 mod run_records;

@@ -1,16 +1,15 @@
 //! A run that was written down: what is drawn of each of its lines, and of the first that the checker refuses.
-ghost use Rattle.std.specs.Prelude.{◌≡◌, IfOk, OnOk, string_bytes};
+ghost use Rattle.std.specs.Prelude.{◌≡◌, ◌++◌, IfOk, IfSome, OnOk, codes, string_bytes};
 ghost use Rattle.std.specs.Option.{option_map};
 ghost use Rattle.draw.specs.RunDrawn.{AreSentences, IsRefusalDrawn, IsRunDrawn, SaysReply, SaysWrong, place_about};
 
-use crate::run_line::{guessed, parted};
 use heap_spec::Reply;
 use plain_core::{Keeper, Wrong};
 use programs::Fault;
 use std::alloc::{AllocError, Global};
 use trace_lines::{Objection, record_line, refused_line};
 use tracing::{Tracer, place_of};
-use written_runs::{Judgement, Rule, line_text, reply_text, wrong_text};
+use written_runs::{Judgement, Places, Rule, read_line, reply_text, wrong_text};
 
 /// The record of a line that the checker takes, which has this number in its file.
 pub(crate) fn run_written(
@@ -21,27 +20,21 @@ pub(crate) fn run_written(
 ) -> Result<String, Fault>
     ensures { IfOk result (λ text. IsRunDrawn tracer.old line.now tracer.new (string_bytes text)) }
 {
-    let Some((asked, answer)) = parted(line) else {
-        return Err(Fault::BadLine(number));
-    };
-    let Ok(guess) = guessed(alloc, asked, answer) else {
+    let Ok(read) = read_line(alloc, Places::Classes, line.as_bytes()) else {
         return Err(Fault::Memory);
     };
-    let Some(guess) = guess else {
+    let Some(read) = read else {
         return Err(Fault::BadLine(number));
     };
-    let hint = guess.left.hint();
-    let Ok(written) = line_text(alloc, asked, &guess.reply, hint) else {
-        return Err(Fault::Memory);
-    };
-    if written.as_str() != line {
+    let Ok(asked) = str::from_utf8(read.command) else {
         return Err(Fault::BadLine(number));
-    }
+    };
+    let (hint, _) = read.behind.hint();
     // The checker took this line already.
-    let Ok(Some(changes)) = tracer.tell(None, &guess.event, &guess.reply, hint) else {
+    let Ok(Some(changes)) = tracer.tell(None, &read.event, &read.reply, hint) else {
         return Err(Fault::Memory);
     };
-    let Ok(said) = reply_text(alloc, &guess.reply) else {
+    let Ok(said) = reply_text(alloc, &read.reply) else {
         return Err(Fault::Memory);
     };
     match record_line(alloc, asked, said.as_str(), &changes) {
@@ -116,6 +109,13 @@ fn place_judged(judgement: &Judgement) -> Option<u64>
         Some(wrong) => Some(place_of_wrong(wrong)),
         None => None,
     }
+}
+
+// The command of a line, and its answer: what stands behind ` => `.
+fn parted(line: &str) -> Option<(&str, &str)>
+    ensures { IfSome result (λ parts. line.now ≡ parts.0.now ++ (codes " => " ++ parts.1.now)) }
+{
+    line.split_once(" => ")
 }
 
 /// The record of a line that the checker refuses with these sentences, which has this number in its file.

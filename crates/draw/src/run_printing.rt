@@ -8,14 +8,14 @@ ghost use Rattle.tracing.specs.Telling.{IsNewTracer};
 ghost use Rattle.draw.specs.RunTrace.{DrawsRun, PutsBrokenTrace, PutsCutTrace, PutsWholeTrace, first_text};
 
 use crate::run_drawing::{refusal_written, sentences};
-use crate::run_lines::{first_line, told_among};
+use crate::run_lines::told_among;
 use crate::run_records::{put_line, put_records};
 use programs::Fault;
 use scripts::Sink;
 use std::alloc::Global;
 use trace_lines::head_line;
 use tracing::Tracer;
-use written_runs::{Judgement, Rule, Verdict, judge};
+use written_runs::{Judgement, Rule, Verdict, first_line, judge};
 
 // Writes the first line of a trace of so many records, which say nothing of a collector.
 fn put_head<W: Sink>(out: &mut W, alloc: Global, pages: u32, lines: u64) -> Result<(), Fault>

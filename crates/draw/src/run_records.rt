@@ -7,11 +7,11 @@ ghost use Rattle.written_runs.specs.Told.{told_lines};
 ghost use Rattle.draw.specs.RunTrace.{PutsRecords};
 
 use crate::run_drawing::run_written;
-use crate::run_lines::{first_line, is_comment};
 use programs::Fault;
 use scripts::{Sink, write_all};
 use std::alloc::Global;
 use tracing::Tracer;
+use written_runs::{first_line, is_comment};
 
 /// Writes a line, and a newline behind it.
 pub(crate) fn put_line<W: Sink>(out: &mut W, line: String) -> Result<(), Fault>

@@ -100,7 +100,7 @@ fn print_deed(
     text: &str,
     said: &Explained,
 ) -> Result<(), Fault> {
-    let Ok(journal) = Journal::of(rt.alloc(), text, line) else {
+    let Ok(journal) = Journal::of(rt.alloc(), asked.places, text, line) else {
         return Err(Fault::Memory);
     };
     let Ok(first) = first_text(

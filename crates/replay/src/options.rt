@@ -23,12 +23,8 @@ pub(crate) struct Asked {
 impl Asked {
     /// Where the heap lies.
     pub(crate) fn range(&self) -> Range {
-        let from = match self.places {
-            Places::Classes => FIRST_ADDRESS,
-            Places::Any(from) => from,
-        };
         Range {
-            from,
+            places: self.places,
             pages: self.pages,
         }
     }

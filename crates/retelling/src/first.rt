@@ -1,24 +1,22 @@
 //! The first sentence on a line that isn't legal.
-use crate::answers::{bases_in, count_in, is_refusal, place_in, reply_in};
-use crate::journal::{Journal, line_at};
+use crate::journal::{Journal, line_at, placed};
 use crate::loads::{dead_text, loaded_text};
 use crate::objects::{Birth, Range};
 use crate::requests::placed_text;
 use crate::texts::{address_text, birth_text, keeper_text, object_text};
 use heap_spec::{Call, Event, Reply};
 use plain_core::{Keeper, Wrong};
-use scripts::command;
-use scripts::limits::LINE_BYTES;
 use std::alloc::{AllocError, Global};
 use words::{Refusal, Slot};
-use written_runs::{Judgement, reply_text};
+use written_runs::{Behind, Judgement, Line, read_line, reply_text};
 
-// The event of a command.
-fn event_of(asked: &str) -> Option<Event> {
-    if asked.len() > LINE_BYTES {
-        return None;
-    }
-    command(asked.as_bytes())
+// A line that breaks the run: what it asks, what it was answered, the same as texts, and what it had to be answered, if that is told.
+#[derive(Drop)]
+struct Broken<'a> {
+    line: &'a Line<'a>,
+    asked: &'a str,
+    told: &'a str,
+    expected: Option<Reply>,
 }
 
 // An object was taken that has to stay.
@@ -85,14 +83,9 @@ fn object_wrong_text(
 }
 
 // A reply that is wrong, where just one is right or more are.
-fn reply_wrong_text(
-    alloc: Global,
-    asked: &str,
-    answer: &str,
-    expected: Option<Reply>,
-) -> Result<String, AllocError> {
-    let told = reply_in(answer);
-    let Some(reply) = expected else {
+fn reply_wrong_text(alloc: Global, broken: &Broken) -> Result<String, AllocError> {
+    let (asked, told) = (broken.asked, broken.told);
+    let Some(reply) = broken.expected else {
         return format!(in alloc; "`{asked}` may not be answered `{told}`");
     };
     let right = reply_text(alloc, &reply)?;
@@ -100,18 +93,12 @@ fn reply_wrong_text(
 }
 
 // A collection that names other objects than it counts, or a reply that is wrong.
-fn count_text(
-    alloc: Global,
-    asked: &str,
-    answer: &str,
-    expected: Option<Reply>,
-) -> Result<String, AllocError> {
-    let bases = match bases_in(answer) {
-        Some(bases) if expected.is_none() => bases,
-        _ => return reply_wrong_text(alloc, asked, answer, expected),
+fn count_text(alloc: Global, broken: &Broken) -> Result<String, AllocError> {
+    let bases = match &broken.line.behind {
+        Behind::Bases(bases) if broken.expected.is_none() => bases,
+        _ => return reply_wrong_text(alloc, broken),
     };
-    let told = reply_in(answer);
-    let named = count_in(bases);
+    let (asked, told, named) = (broken.asked, broken.told, bases.len());
     format!(in alloc; "`{asked}` took {told} objects, and names {named}")
 }
 
@@ -120,33 +107,33 @@ fn access_text(
     alloc: Global,
     journal: &Journal,
     address: u64,
-    asked: &str,
-    answer: &str,
-    expected: Option<Reply>,
+    broken: &Broken,
 ) -> Result<Option<String>, AllocError> {
-    match expected {
-        Some(Reply::Word(right)) => loaded_text(alloc, journal, address, reply_in(answer), right),
-        Some(Reply::Refused(Refusal::NoObject)) => dead_text(alloc, journal, address, asked),
+    match broken.expected {
+        Some(Reply::Word(right)) => loaded_text(alloc, journal, address, broken.told, right),
+        Some(Reply::Refused(Refusal::NoObject)) => dead_text(alloc, journal, address, broken.asked),
         _ => Ok(None),
     }
 }
 
-// What is said of a request for so many words.
+// What is said of a request for so many words that was refused or granted.
 fn request_text(
     alloc: Global,
     journal: &Journal,
     range: &Range,
     slot: Slot,
     wanted: u64,
-    asked: &str,
-    answer: &str,
-    expected: Option<Reply>,
+    broken: &Broken,
 ) -> Result<Option<String>, AllocError> {
-    if expected == Some(Reply::Done) && is_refusal(answer) {
+    let asked = broken.asked;
+    if let Reply::Refused(_) = broken.line.reply {
+        if broken.expected != Some(Reply::Done) {
+            return Ok(None);
+        }
         let text = format!(in alloc; "`{asked}` was refused, but there is room for it")?;
         return Ok(Some(text));
     }
-    let Some((base, words)) = place_in(answer) else {
+    let Some((base, words)) = placed(&broken.line.behind, wanted) else {
         return Ok(None);
     };
     if !journal.is_attached(slot) {
@@ -156,7 +143,7 @@ fn request_text(
     }
     let new = Birth {
         base,
-        words: words.unwrap_or(wanted),
+        words,
         line: 0,
     };
     let text = placed_text(alloc, journal, range, wanted, &new)?;
@@ -168,47 +155,46 @@ fn event_text(
     alloc: Global,
     journal: &Journal,
     range: &Range,
-    event: &Event,
-    asked: &str,
-    answer: &str,
-    expected: Option<Reply>,
+    broken: &Broken,
 ) -> Result<Option<String>, AllocError> {
-    let Event::Mutator(slot, call) = event else {
+    let Event::Mutator(slot, call) = broken.line.event else {
         return Ok(None);
     };
-    match *call {
+    match call {
         Call::Load(_, at, offset) | Call::Store(at, offset, _) => {
-            let address = journal.address(*slot, at, offset);
-            access_text(alloc, journal, address, asked, answer, expected)
+            let address = journal.address(slot, at, offset);
+            access_text(alloc, journal, address, broken)
         }
-        Call::Alloc(_, wanted, _) => request_text(
-            alloc, journal, range, *slot, wanted, asked, answer, expected,
-        ),
+        Call::Alloc(_, wanted, _) => request_text(alloc, journal, range, slot, wanted, broken),
         _ => Ok(None),
     }
 }
 
-// What is said of a command, where more can be said than of its reply.
-fn command_text(
+// What is said of a line that breaks the run.
+fn broken_text(
     alloc: Global,
     journal: &Journal,
     range: &Range,
-    asked: &str,
-    answer: &str,
+    line: &Line,
     judgement: &Judgement,
-) -> Result<Option<String>, AllocError> {
-    let Some(event) = event_of(asked) else {
-        return Ok(None);
+) -> Result<String, AllocError> {
+    let Ok(asked) = str::from_utf8(line.command) else {
+        return format!(in alloc; "the line may not stand here");
     };
-    event_text(
-        alloc,
-        journal,
-        range,
-        &event,
+    if let Some(wrong) = judgement.wrong {
+        return object_wrong_text(alloc, journal, &wrong, judgement.keeper, asked);
+    }
+    let told = reply_text(alloc, &line.reply)?;
+    let broken = Broken {
+        line,
         asked,
-        answer,
-        judgement.expected,
-    )
+        told: told.as_str(),
+        expected: judgement.expected,
+    };
+    match event_text(alloc, journal, range, &broken)? {
+        Some(said) => Ok(said),
+        None => count_text(alloc, &broken),
+    }
 }
 
 /// What the line of this number did, which the checker says breaks the run of a heap in this range, in one sentence.
@@ -223,14 +209,11 @@ pub fn first_text(
     number: u64,
     judgement: &Judgement,
 ) -> Result<String, AllocError> {
-    let Some((asked, answer)) = line_at(text, number) else {
+    let Some(line) = line_at(text, number) else {
         return format!(in alloc; "the line may not stand here");
     };
-    if let Some(wrong) = judgement.wrong {
-        return object_wrong_text(alloc, journal, &wrong, judgement.keeper, asked);
-    }
-    match command_text(alloc, journal, range, asked, answer, judgement)? {
-        Some(said) => Ok(said),
-        None => count_text(alloc, asked, answer, judgement.expected),
+    match read_line(alloc, range.places, line.as_bytes())? {
+        Some(line) => broken_text(alloc, journal, range, &line, judgement),
+        None => format!(in alloc; "the line may not stand here"),
     }
 }

@@ -1,13 +1,11 @@
 //! What the lines of a run told, one after another. They are lines to which the checker has said yes.
-use crate::answers::{bases_in, first_number, is_refusal, place_in};
 use crate::objects::{Birth, Leave, Place, Put};
-use heap_spec::{Call, Event};
+use heap_spec::{Call, Event, Reply};
 use roots::Root;
-use scripts::limits::LINE_BYTES;
-use scripts::{command, number};
 use std::alloc::{AllocError, Global};
-use words::limits::{REGISTERS, SLOTS};
+use words::limits::REGISTERS;
 use words::{Reg, Slot};
+use written_runs::{Behind, Line, Places, read_line};
 
 /// What lines told, by their numbers.
 #[derive(Drop)]
@@ -22,8 +20,8 @@ pub struct Journal {
     depths: Vec<Option<usize>>,
 }
 
-// The line of a number in a text, from 1.
-fn line_from(text: &str, wanted: u64) -> Option<&str> {
+/// The line of a number in a text, from 1.
+pub(crate) fn line_at(text: &str, wanted: u64) -> Option<&str> {
     let mut number = 0u64;
     for line in text.split('\n') {
         number = number.wrapping_add(1);
@@ -34,10 +32,13 @@ fn line_from(text: &str, wanted: u64) -> Option<&str> {
     None
 }
 
-/// The command of the line that has a number, counted from 1, and its answer.
-pub(crate) fn line_at(text: &str, wanted: u64) -> Option<(&str, &str)> {
-    let line = line_from(text, wanted)?;
-    line.split_once(" => ")
+/// Where a granted request for so many words was placed, and how many words its object has.
+pub(crate) fn placed(behind: &Behind, asked: u64) -> Option<(u64, u64)> {
+    match *behind {
+        Behind::Place(base) => Some((base, asked)),
+        Behind::Object(base, words) => Some((base, words)),
+        Behind::Nothing | Behind::Bases(_) => None,
+    }
 }
 
 impl Journal {
@@ -53,11 +54,16 @@ impl Journal {
         })
     }
 
-    /// What the lines of a run tell that stand before the one of this number.
+    /// What the lines of a run tell that stand before the one of this number. Its objects may lie where `places` says.
     ///
     /// # Errors
     /// [`AllocError`] if memory was refused.
-    pub fn of(alloc: Global, text: &str, before: u64) -> Result<Journal, AllocError> {
+    pub fn of(
+        alloc: Global,
+        places: Places,
+        text: &str,
+        before: u64,
+    ) -> Result<Journal, AllocError> {
         let mut journal = Journal::new(alloc)?;
         let mut number = 0u64;
         for line in text.split('\n') {
@@ -65,7 +71,9 @@ impl Journal {
             if number >= before {
                 return Ok(journal);
             }
-            journal.tell(number, line)?;
+            if let Some(told) = read_line(alloc, places, line.as_bytes())? {
+                journal.happen(number, &told)?;
+            }
         }
         Ok(journal)
     }
@@ -130,9 +138,9 @@ impl Journal {
         line: u64,
         slot: Slot,
         reg: Reg,
-        answer: &str,
+        reply: &Reply,
     ) -> Result<(), AllocError> {
-        let Some(word) = first_number(answer) else {
+        let Reply::Word(word) = *reply else {
             return Ok(());
         };
         self.put_register(line, slot, reg, word)
@@ -145,12 +153,11 @@ impl Journal {
         slot: Slot,
         into: Reg,
         asked: u64,
-        answer: &str,
+        behind: &Behind,
     ) -> Result<(), AllocError> {
-        let Some((base, words)) = place_in(answer) else {
+        let Some((base, words)) = placed(behind, asked) else {
             return Ok(());
         };
-        let words = words.unwrap_or(asked);
         self.births.push(Birth { base, words, line })?;
         self.put_register(line, slot, into, base)
     }
@@ -167,10 +174,10 @@ impl Journal {
     }
 
     // The top of the stack came into a register.
-    fn pop(&mut self, line: u64, slot: Slot, into: Reg, answer: &str) -> Result<(), AllocError> {
+    fn pop(&mut self, line: u64, slot: Slot, into: Reg, reply: &Reply) -> Result<(), AllocError> {
         let depth = self.depth(slot).unwrap_or(0);
         self.set_depth(slot, Some(depth.wrapping_sub(1)));
-        self.put_answer(line, slot, into, answer)
+        self.put_answer(line, slot, into, reply)
     }
 
     /// The address that a register has, so many words on.
@@ -192,7 +199,7 @@ impl Journal {
     }
 
     // A call that was done.
-    fn call(&mut self, line: u64, slot: Slot, call: &Call, answer: &str) -> Result<(), AllocError> {
+    fn call(&mut self, line: u64, slot: Slot, call: &Call, told: &Line) -> Result<(), AllocError> {
         match *call {
             Call::Set(r, word) => self.put_register(line, slot, r, word),
             Call::Copy(to, from) => self.put_register(line, slot, to, self.register(slot, from)),
@@ -211,13 +218,13 @@ impl Journal {
                         .wrapping_sub(self.register(slot, minus)),
                 )
             }
-            Call::Load(to, _, _) | Call::Base(to, _) | Call::GlobalGet(to, _) => self.put_answer(
-                line, slot, to, answer,
-            ),
+            Call::Load(to, _, _) | Call::Base(to, _) | Call::GlobalGet(to, _) => {
+                self.put_answer(line, slot, to, &told.reply)
+            }
             Call::Push(from) => self.push(line, slot, from),
-            Call::Pop(to) => self.pop(line, slot, to, answer),
+            Call::Pop(to) => self.pop(line, slot, to, &told.reply),
             Call::Store(at, offset, from) => self.store(line, slot, at, offset, from),
-            Call::Alloc(into, asked, _) => self.be_born(line, slot, into, asked, answer),
+            Call::Alloc(into, asked, _) => self.be_born(line, slot, into, asked, &told.behind),
             Call::GlobalPut(global, from) => {
                 self.put(
                     line,
@@ -244,29 +251,20 @@ impl Journal {
     }
 
     // Objects were forgotten.
-    fn forget(&mut self, line: u64, answer: &str) -> Result<(), AllocError> {
-        let Some(bases) = bases_in(answer) else {
+    fn forget(&mut self, line: u64, behind: &Behind) -> Result<(), AllocError> {
+        let Behind::Bases(bases) = behind else {
             self.unnamed = line;
             return Ok(());
         };
-        for word in bases.split(' ') {
-            if let Some(base) = number(word.as_bytes()) {
-                self.leave(line, base)?;
-            }
+        for base in bases {
+            self.leave(line, *base)?;
         }
         Ok(())
     }
 
     // A mutator came: its registers are 0, and its stack is empty.
-    fn come(&mut self, line: u64, answer: &str) -> Result<(), AllocError> {
-        let Some((_, text)) = answer.split_once(' ') else {
-            return Ok(());
-        };
-        let slot = match number(text.as_bytes()) {
-            Some(slot) if slot < u64::from(SLOTS) => Slot::new(slot as u8),
-            _ => None,
-        };
-        let Some(slot) = slot else {
+    fn come(&mut self, line: u64, reply: &Reply) -> Result<(), AllocError> {
+        let Reply::Slot(slot) = *reply else {
             return Ok(());
         };
         self.set_depth(slot, Some(0));
@@ -278,27 +276,16 @@ impl Journal {
         Ok(())
     }
 
-    // An event that was granted.
-    fn happen(&mut self, line: u64, event: &Event, answer: &str) -> Result<(), AllocError> {
-        match event {
-            Event::Attach => self.come(line, answer),
-            Event::Mutator(slot, call) => self.call(line, *slot, call, answer),
-            Event::Finish | Event::Collect => self.forget(line, answer),
+    // What a line tells happened, if it was granted.
+    fn happen(&mut self, line: u64, told: &Line) -> Result<(), AllocError> {
+        if let Reply::Refused(_) = told.reply {
+            return Ok(());
+        }
+        match &told.event {
+            Event::Attach => self.come(line, &told.reply),
+            Event::Mutator(slot, call) => self.call(line, *slot, call, told),
+            Event::Finish | Event::Collect => self.forget(line, &told.behind),
             _ => Ok(()),
         }
-    }
-
-    // A line.
-    fn tell(&mut self, line: u64, text: &str) -> Result<(), AllocError> {
-        let Some((asked, answer)) = text.split_once(" => ") else {
-            return Ok(());
-        };
-        if asked.len() > LINE_BYTES || is_refusal(answer) {
-            return Ok(());
-        }
-        let Some(event) = command(asked.as_bytes()) else {
-            return Ok(());
-        };
-        self.happen(line, &event, answer)
     }
 }

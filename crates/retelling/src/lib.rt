@@ -11,7 +11,6 @@
 //! here are only tested, and so are the numbers of lines in them.
 #![tactic(auto)]
 
-mod answers;
 mod first;
 mod journal;
 mod loads;

@@ -1,6 +1,7 @@
 //! Objects, by the lines that brought them, and places of words, by the lines that put these there.
 use roots::Root;
-use words::limits::{PAGE_BYTES, WORD_BYTES};
+use words::limits::{FIRST_ADDRESS, PAGE_BYTES, WORD_BYTES};
+use written_runs::Places;
 
 /// An object that a line brought.
 #[derive(Clone, Copy, Debug)]
@@ -35,14 +36,22 @@ impl Birth {
 /// Where a heap lies.
 #[derive(Clone, Copy, Debug)]
 pub struct Range {
-    /// The address of its first byte.
-    pub from: u64,
+    /// Where its objects may lie.
+    pub places: Places,
 
     /// How many pages it has.
     pub pages: u32,
 }
 
 impl Range {
+    /// The address of its first byte.
+    pub(crate) fn from(&self) -> u64 {
+        match self.places {
+            Places::Classes => FIRST_ADDRESS,
+            Places::Any(from) => from,
+        }
+    }
+
     /// How many bytes it has.
     pub(crate) fn bytes(&self) -> u64 {
         PAGE_BYTES * u64::from(self.pages)
@@ -50,7 +59,8 @@ impl Range {
 
     /// Whether all bytes of an object lie in it.
     pub(crate) fn holds(&self, birth: &Birth) -> bool {
-        self.from <= birth.base && birth.end() <= u128::from(self.from) + u128::from(self.bytes())
+        self.from() <= birth.base
+            && birth.end() <= u128::from(self.from()) + u128::from(self.bytes())
     }
 }
 

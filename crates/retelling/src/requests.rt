@@ -30,7 +30,7 @@ pub(crate) fn placed_text(
         );
     }
     if !range.holds(new) {
-        let (from, bytes) = (range.from, range.bytes());
+        let (from, bytes) = (range.from(), range.bytes());
         return format!(in alloc;
             "the new object at {place} of {words} words lies outside of the heap, which has {bytes} bytes from {from} on"
         );

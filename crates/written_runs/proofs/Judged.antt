@@ -1,9 +1,12 @@
 -- Runs that lines lead to.
-use Rattle.std.proofs.Common.{◌≡◌, ℕ, ◌+◌, ◌<◌, ◌≤◌, List, [], ◌∷◌, ◌++◌, length, refl, sym, ap, ◌∙◌, subst, arith, append_assoc, length-append, Bool, true, false}
+use Rattle.std.proofs.Common.{◌≡◌, ◌≢◌, get_or, ℕ, ◌+◌, ◌<◌, ◌≤◌, List, [], ◌∷◌, ◌++◌, length, refl, sym, ap, ◌∙◌, subst, arith, append_assoc, length-append, Bool, true, false}
 use Rattle.std.specs.Prelude.{Option, Some, None, cond, not}
 use Rattle.std.specs.Global.{Vec}
 use Rattle.std.proofs.lemmas.List.{append-nil}
-use Rattle.std.proofs.lemmas.List.Elements.{filter-append}
+use Rattle.std.proofs.lemmas.List.Elements.{All-from_get_or, filter-append}
+use Rattle.std.proofs.lemmas.Str.Pattern.{IsSplitOnceResult, split_parts}
+use Rattle.std.specs.Borrow.{Bor}
+use Rattle.scripts.specs.Reading.{IsPlainLine}
 use Rattle.heap_spec.specs.declared.reply.Reply.{Reply}
 use Rattle.heap_spec.specs.Runs.{Start, Run, opening_start, heap_after}
 use Rattle.replayer.specs.ReplayerContents.{ReplayerContents, Follows}
@@ -15,7 +18,6 @@ use Rattle.scripts.proofs.Texts.{lines_of-line, lines_of-last}
 use Rattle.written_runs.specs.declared.places.Places.{Places}
 use Rattle.written_runs.specs.declared.verdict.Verdict.TheVariants.{Legal, NoLines, Bad, Breaks}
 use Rattle.written_runs.specs.declared.verdict.Verdict.{Verdict}
-use Rattle.written_runs.specs.Cuts.{IsEmptyOrFrom, IsTextCut}
 use Rattle.written_runs.specs.Finding.{Takes, IsToldAt, IsLineVerdict, IsLineExplained, IsLineBlamed, IsLineTraced}
 use Rattle.written_runs.specs.Judging.{Leads, ends, on, IsBroken, HasFault, IsJudged, HadToAnswer, IsExplained, IsWrongLine, IsBlamed, IsWayTo, IsTracedBack}
 use Rattle.written_runs.specs.Ranges.{BeginsBy}
@@ -160,14 +162,15 @@ module _ (places : Places) (pages : ℕ) (text rest behind line : List ℕ) (num
   traced why (Bad n) wrong path is has = has
   traced why (Breaks n rule) wrong path is has = fault (λ run l. IsWayTo (heap_after (opening_start pages) run) why wrong path) n is.0 (has (opening_start pages) u.run u.follows)
 
--- the first line of a text that was cut at its first newline
-pub line_with_newline : (text line rest behind : List ℕ) (b : ℕ) → IsTextCut newline text line rest → rest ≡ b ∷ behind → lines_of text ≡ line ∷ lines_of behind
-line_with_newline text line rest behind b cut e =
-    let is : b ≡ newline = subst (IsEmptyOrFrom newline) e cut.from in
-    ap lines_of (cut.whole ∙ ap (λ r. line ++ r) (e ∙ ap (λ x. x ∷ behind) is)) ∙ lines_of-line line behind cut.lacks
+plain_of : (line : List ℕ) → ((i : ℕ) → i < length line → get_or line i 0 ≢ newline) → IsPlainLine line
+plain_of line lacks = All-from_get_or (λ b. b ≢ newline) line 0 lacks
 
-pub line_without : (text line rest : List ℕ) → IsTextCut newline text line rest → 0 < length text → length rest ≡ 0 → lines_of text ≡ line ∷ lines_of rest
-line_without text line [] cut some none =
-    let whole : text ≡ line = cut.whole ∙ append-nil line in
-    ap lines_of whole ∙ lines_of-last line cut.lacks (let h = ap length whole in omega (arith, h))
-line_without text line (b ∷ rest) cut some none = absurd (omega arith)
+-- the first line of a text, where it was cut at its first newline
+pub cut_line : (text : List ℕ) (parts : Bor (List ℕ) × Bor (List ℕ)) → IsSplitOnceResult newline text (Some parts) → lines_of text ≡ parts.0.now ∷ lines_of parts.1.now
+cut_line text parts split =
+    let cut = split_parts newline text (Some parts) split (omega arith) in
+    ap lines_of cut.0 ∙ lines_of-line parts.0.now parts.1.now (plain_of parts.0.now cut.1)
+
+-- where it has none, it is the only one
+pub last_line : (text : List ℕ) → 0 < length text → IsSplitOnceResult newline text None → lines_of text ≡ text ∷ []
+last_line text some split = lines_of-last text (plain_of text (split_parts newline text None split (omega arith))) some

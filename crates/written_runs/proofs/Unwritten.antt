@@ -12,6 +12,7 @@ use Rattle.written_runs.specs.declared.line.Line.{Line}
 use Rattle.written_runs.specs.declared.places.Places.{Places}
 use Rattle.written_runs.specs.declared.places.Places.TheVariants.{Classes, Any}
 use Rattle.written_runs.specs.declared.step.Step.{Step}
+use Rattle.std.specs.Borrow.{Bor}
 use Rattle.written_runs.specs.Cuts.{IsEmptyOrFrom}
 use Rattle.written_runs.specs.Written.{answer_of, hint_text, sized_text, IsLineWith}
 use Rattle.written_runs.specs.Reading.{IsParted, IsReplyAt, IsBehind, IsHintText, IsRead, told_text}
@@ -85,10 +86,12 @@ module _ (places : Places) (line : List ℕ) where
       (same_rest answer event step.event reply step.reply rest (told_text places step.hint step.words) at (step_answer text answer parted step w)))
 
   -- the line that was read
-  pub line_read : (text answer rest : List ℕ) (event : Event) (reply : Reply) (behind : Behind) → IsParted line text answer → IsLineOf text event → IsReplyAt event answer reply rest → IsBehind places rest behind → IsRead places line (record { event = event; reply = reply; behind = behind })
+  pub line_read : (text : Bor (List ℕ)) (answer rest : List ℕ) (event : Event) (reply : Reply) (behind : Behind) → IsParted line text.now answer → IsLineOf text.now event → IsReplyAt event answer reply rest → IsBehind places rest behind
+      → IsRead places line (record { command = text; event = event; reply = reply; behind = behind })
   line_read text answer rest event reply behind parted is at of = record {
     text = rest;
-    parts = record { command = text; is_command = is; is_line = parted.whole ∙ ap (λ a. text ++ (codes " => " ++ a)) at.whole; answers = at.answers };
+    names = refl;
+    parts = record { command = text.now; is_command = is; is_line = parted.whole ∙ ap (λ a. text.now ++ (codes " => " ++ a)) at.whole; answers = at.answers };
     behind = of;
   }
 

@@ -98,4 +98,5 @@ pub record IsHintText (places : Places) (text : List ℕ) (hint : Hint) (n : ℕ
 pub record IsRead (places : Places) (line : List ℕ) (l : Line) : Type 0 where
   pub text : List ℕ
   pub parts : IsLineWith line l.event l.reply text
+  pub names : parts.command ≡ l.command.now
   pub behind : IsBehind places text l.behind

@@ -13,7 +13,7 @@ use std::alloc::{AllocError, Global};
 
 /// What stands behind a reply.
 #[derive(Debug, Drop)]
-pub(crate) enum Behind {
+pub enum Behind {
     /// Nothing.
     Nothing,
 
@@ -29,7 +29,7 @@ pub(crate) enum Behind {
 
 impl Behind {
     /// What the reply leaves open, and how many words the object has that this places, 0 where it isn't told.
-    pub(crate) fn hint(&self) -> (Hint<'_>, u64)
+    pub fn hint(&self) -> (Hint<'_>, u64)
         ensures { (places : PlacesValue) (text : List ℕ) → IsBehind places text self.now → IsHintText places text result.0 result.1 }
     {
         match self {

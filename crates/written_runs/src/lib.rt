@@ -18,8 +18,11 @@ mod told;
 mod verdict;
 mod writing;
 
+pub use behind::Behind;
 pub use command::{address_given, bytes_given, pages_given, places_given, words_given};
+pub use line::{Line, read_line};
 pub use places::Places;
 pub use rules::Rule;
+pub use told::{first_line, is_comment, told_by};
 pub use verdict::{Explained, Judgement, Verdict, explain, judge};
 pub use writing::{line_text, reply_text, step_text, wrong_text};

@@ -16,18 +16,21 @@ use std::alloc::{AllocError, Global};
 
 /// A line that was read.
 #[derive(Debug, Drop)]
-pub(crate) struct Line {
+pub struct Line<'a> {
+    /// What was asked, as the line says it.
+    pub command: &'a [u8],
+
     /// What was asked.
-    pub(crate) event: Event,
+    pub event: Event,
 
     /// What was answered.
-    pub(crate) reply: Reply,
+    pub reply: Reply,
 
-    /// What the reply leaves open.
-    pub(crate) behind: Behind,
+    /// What stands behind the reply.
+    pub behind: Behind,
 }
 
-impl Line {
+impl<'a> Line<'a> {
     /// The step that it is written of.
     pub(crate) fn step(&self) -> Step<'_>
         ensures { (places : PlacesValue) (line : List ℕ) → IsRead places line self.now → IsStepLine places line result }
@@ -56,12 +59,15 @@ fn parted(line: &[u8]) -> Option<(&[u8], &[u8])>
     Some((text, answer))
 }
 
-/// Reads a line, and gives `None` exactly if it is written of nothing.
-pub(crate) fn read_line(
+/// Reads a line of a run whose objects may lie where `places` says, and gives `None` exactly if it is written of nothing.
+///
+/// # Errors
+/// [`AllocError`] if memory was refused.
+pub fn read_line<'a>(
     alloc: Global,
     places: Places,
-    line: &[u8],
-) -> Result<Option<Line>, AllocError>
+    line: &'a [u8],
+) -> Result<Option<Line<'a>>, AllocError>
     ensures { IfOk result (λ found. MatchOption found (IsUnwritten places line.now) (λ l. IsRead places line.now l)) }
 {
     let Some((text, answer)) = parted(line) else {
@@ -80,6 +86,7 @@ pub(crate) fn read_line(
         return Ok(None);
     };
     Ok(Some(Line {
+        command: text,
         event,
         reply,
         behind,

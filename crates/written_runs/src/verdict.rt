@@ -89,7 +89,7 @@ fn judge_line(
     places: Places,
     why: bool,
     number: u64,
-    line: &[u8],
+    line: &str,
 ) -> Result<Option<Explained>, AllocError>
     requires begins { BeginsBy places replayer.old }
     ensures found { IfOk result (λ found. IsLineJudged places replayer.old why number line.now found replayer.new) }
@@ -98,7 +98,7 @@ fn judge_line(
     if is_comment(line) {
         return Ok(None);
     }
-    let Some(line) = read_line(alloc, places, line)? else {
+    let Some(line) = read_line(alloc, places, line.as_bytes())? else {
         return Ok(Some(unexplained(Verdict::Bad(number))));
     };
     let step = line.step();
@@ -154,7 +154,7 @@ pub fn explain(
     let mut replayer = new_replayer(alloc, pages, places)?;
     let mut number = 0u64;
     let mut told = 0u64;
-    let mut rest = text.as_bytes();
+    let mut rest = text;
     while !rest.is_empty() {
         let (line, behind) = first_line(rest);
         number += 1;

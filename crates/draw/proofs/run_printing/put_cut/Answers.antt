@@ -1,4 +1,4 @@
-use Rattle.std.proofs.Common.{◌≡◌, ◌+◌, rules, arith}
+use Rattle.std.proofs.Common.{◌≡◌, ◌+◌, rules}
 use Rattle.draw.proofs.Traces.{cut_trace}
 use Rattle.draw.proofs.run_printing.put_cut.Goals as goal
 

@@ -1,4 +1,4 @@
-use Rattle.std.proofs.Common.{◌≡◌, ◌∙◌, rules, arith, length, take, drop, ap, sym, subst, List, ℕ}
+use Rattle.std.proofs.Common.{◌≡◌, ◌∙◌, rules, arith, length, subst}
 use Rattle.scripts.specs.Lines.{lines_of}
 use Rattle.written_runs.specs.Told.{told_lines}
 use Rattle.draw.specs.RunTrace.{PutsRecords}
