@@ -1,7 +1,8 @@
 /* sizes PAGES: what calls of the heap for C cost on a mapped heap of so many pages, of which 1,000 are in use, each by one object that a list
  * keeps: a line NAME NUMBER each. `open` is in microseconds and `resident` the kilobytes that it made resident; the calls are the medians of
  * 1,001 rounds, in nanoseconds. `run` is a request for two pages where all pages but the last two have objects, every other one of which was
- * freed, and `none` one where they have too, and it is refused: microseconds, and only where a third word asks for it, since it touches all. */
+ * freed, `again` the next one behind its free, and `none` one where they have objects too, and it is refused: microseconds, and only where a
+ * third word asks for it, since it touches all. */
 #define _POSIX_C_SOURCE 200809L
 #include "mpheap.h"
 #include <stdio.h>
@@ -78,21 +79,25 @@ static void end(void) {
     sweep_all();
 }
 
+static void show_run(const char *name, uint32_t status) {
+    uint64_t base;
+    double start = now();
+    if (mpheap_alloc_base(&heap, slot, NEW, 2 * MPHEAP_PAGE_WORDS, &base) != status) abort();
+    printf("%s %.1f\n", name, (now() - start) / 1e3);
+}
+
 static void measure_runs(uint32_t pages) {
-    uint64_t *bases = malloc(pages * sizeof *bases), base;
-    double start;
+    uint64_t *bases = malloc(pages * sizeof *bases);
     if (bases == NULL) abort();
     for (uint32_t k = 0; k < pages - 2 - IN_USE; k++) done(mpheap_alloc_base(&heap, slot, NEW, MPHEAP_PAGE_WORDS, &bases[k]));
     for (uint32_t k = 1; k < pages - 2 - IN_USE; k += 2) {
         done(mpheap_set(&heap, slot, NEW, bases[k]));
         done(mpheap_free(&heap, slot, NEW));
     }
-    start = now();
-    done(mpheap_alloc_base(&heap, slot, NEW, 2 * MPHEAP_PAGE_WORDS, &base));
-    printf("run %.1f\n", (now() - start) / 1e3);
-    start = now();
-    if (mpheap_alloc_base(&heap, slot, NEW, 2 * MPHEAP_PAGE_WORDS, &base) != MPHEAP_FULL) abort();
-    printf("none %.1f\n", (now() - start) / 1e3);
+    show_run("run", MPHEAP_OK);
+    give_up();
+    show_run("again", MPHEAP_OK);
+    show_run("none", MPHEAP_FULL);
     free(bases);
 }
 
