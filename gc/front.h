@@ -90,6 +90,7 @@ HIDDEN bool mpgc_is_uncollectable(uintptr_t base);
 // are dirty; and so many free ones in a row, of those that ever had something, are the lowest from this one on.
 HIDDEN size_t mpgc_pages(void);
 HIDDEN size_t mpgc_pages_of(enum page_kind kind);
+HIDDEN size_t mpgc_open_pages(void);
 HIDDEN size_t mpgc_used_pages(void);
 HIDDEN size_t mpgc_free_pages(void);
 HIDDEN size_t mpgc_ever_used_pages(void);

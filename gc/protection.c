@@ -222,6 +222,14 @@ bool mpgc_close_some(void)
     return closing < mpgc.size;
 }
 
+// How many pages of ordinary objects are open.
+size_t mpgc_open_pages(void)
+{
+    size_t count = 0;
+    for (size_t page = 0; page < mpgc.size; page++) count += is_open_ordinary(page);
+    return count;
+}
+
 // A cycle has just begun: what holds ordinary objects and isn't closed is told.
 void mpgc_tell_open(void)
 {

@@ -74,8 +74,8 @@ if command -v clang >"$room/said"; then CC=clang build "$room/clang"; else skip 
 . "$top/tests/gc/parts/names.sh"
 
 # Each function, each place of roots, and what stands round the barrier.
-for test in functions settings macros limits links frees leaks unmapped finalizers kinds roots barrier kernel signals moments process shadow threads world \
-    registering together collector stacks; do
+for test in functions settings macros limits links frees leaks unmapped finalizers kinds roots barrier crowded kernel signals moments process shadow \
+    threads world registering together collector stacks; do
     "${c[@]}" "$top/tests/gc/$test.c" "-L$room" -lmpgc "-Wl,-rpath,$room" -pthread -o "$room/$test" 2>"$room/said"
     is "$test is built" "" "$(cat "$room/said")"
 done
@@ -98,6 +98,7 @@ done
 counted roots "$room/roots"
 counted "roots, in small steps" env INCREMENTAL=1 "$room/roots"
 counted barrier "$room/barrier"
+counted crowded "$room/crowded"
 counted "kernel" "$room/kernel"
 counted "signals" "$room/signals"
 counted "moments" "$room/moments"

@@ -10,6 +10,7 @@ HIDDEN enum due mpgc_due_to_collector(void);
 HIDDEN unsigned mpgc_lag(void);
 HIDDEN void mpgc_tidied(bool did_some);
 HIDDEN void mpgc_grant(size_t pages);
+HIDDEN bool mpgc_rest(void);
 
 // collections.c
 HIDDEN bool mpgc_tidy(void);

@@ -29,7 +29,18 @@ static uint64_t unfilled_until;       // words to ask for, before which the page
 static bool is_settled;               // all pages are swept and open
 static bool is_incremental;
 
-static bool makes_steps(void) { return is_incremental && !mpgc_holds_threads_back(); }
+static GC_word rests_until;           // collections were made: before, they are full ones
+
+static bool makes_steps(void) { return is_incremental && !mpgc_holds_threads_back() && GC_gc_no >= rests_until; }
+
+// Steps don't pay. Answers whether that is new.
+bool mpgc_rest(void)
+{
+    enum { RESTS = 4 };
+    if (GC_gc_no < rests_until) return false;
+    rests_until = GC_gc_no + RESTS;
+    return true;
+}
 
 static uint64_t divisor(void) { return GC_free_space_divisor ? GC_free_space_divisor : 1; }
 

@@ -11,7 +11,8 @@
 // since the last one, and at least sixteen, or half of the last cycle's; and little is asked for between two, so that each leaves fewer
 // dirty pages than the one before it. Where no more than half a batch is dirty the roots are read once more, and then the cycle ends. And
 // behind a cycle with many faults the next one begins with its pages open, all of them dirty: none faults then before it was read again,
-// and a fault costs three times what reading a page again costs.
+// and a fault costs three times what reading a page again costs. Where most pages can't be closed, since the kernel would need too many
+// mappings, a cycle's end would read them all, which is longer than to mark all once: so full collections come in its place for a while.
 #include "paced.h"
 
 enum {
@@ -156,7 +157,11 @@ static enum piece piece_after(enum piece piece, uint64_t did, uint64_t *left)
     switch (piece) {
     case SWEEP: return did ? NO_PIECE : START;
     case START: faults_before = mpgc_figures.faults; retraces_before = mpgc_figures.retraces; return stop_before(is_open ? BEGIN : CLOSE);
-    case CLOSE: return did ? NO_PIECE : BEGIN;
+    case CLOSE:
+        if (did) return NO_PIECE;
+        if (mpgc_open_pages() <= mpgc_pages_of(ORDINARY) / 2 || !mpgc_rest()) return BEGIN;
+        mpgc_drop_cycle();
+        return NO_PIECE;
     case BEGIN: begin(); return stop_before(ROOTS);
     case ROOTS: marked = 0; has_read_described = false; return stop_before(MARK);
     case MARK: return after_mark(did, left);

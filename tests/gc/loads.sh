@@ -4,9 +4,10 @@
 #
 # The marker tells by one subtraction whether a word lies in the heap's range of addresses: so in its functions each addition of the negated
 # first address to a register W where W was loaded last stands behind the load of a word of the heap. That has to be a plain mov into all of W,
-# of an operand that nothing else in the function uses (a second look at the word would); and no function of the marker may load a vector, but
-# from its stack. What lies on the stack, or far behind a pointer, is a field of the marker's own. It ends with how many places there are, of
-# which it has to find some. (0xffffab0000000000 is that address negated.)
+# of an operand that the function uses for such loads alone (a second look at the word would use it, too); where it does so again, as in another
+# copy of a loop, one of the operand's registers is written between. And no function of the marker may load a vector, but from its stack. What
+# lies on the stack, or far behind a pointer, is a field of the marker's own. It ends with how many places there are, of which it has to find
+# some. (0xffffab0000000000 is that address negated.)
 set -euo pipefail
 least=8
 room=$(mktemp -d)
@@ -21,8 +22,14 @@ awk -v least=$least '
     function wrong(what) { print name ": " what ": " $0; failed = 1 }
     /^[0-9a-f]+ <.*>:$/ { ends(); name = $2; is_of_marker = name ~ /marker::/ }
     function ends(at) {
-        for (at in loaded) if (used[at] != 1) { print name ": " at " is used " used[at] " times"; failed = 1 }
-        split("", loaded); split("", used); split("", from); split("", first)
+        for (at in loaded) if (used[at] != loaded[at]) { print name ": " at " is used " used[at] " times, and " loaded[at] " of them are loads"; failed = 1 }
+        split("", loaded); split("", used); split("", from); split("", first); split("", written); split("", line); split("", last)
+    }
+    # The line at which a register of the operand was written last.
+    function renewed(at,    registers, count, k, newest) {
+        count = split(at, registers, /[^%a-z0-9]+/)
+        for (k = 1; k <= count; k++) if (registers[k] ~ /^%/ && written[registers[k]] > newest) newest = written[registers[k]]
+        return newest + 0
     }
     !is_of_marker || !/^ +[0-9a-f]+:/ { next }
     {
@@ -45,10 +52,17 @@ awk -v least=$least '
     }
     word != "" {
         if (from[word] == "part") wrong("the load before it was none of a whole word")
-        else if (from[word] != "") { loaded[from[word]] = 1; count++ }
+        else if (from[word] != "") {
+            if (last[from[word]] && renewed(from[word]) <= last[from[word]]) wrong("the word is loaded once more")
+            loaded[from[word]]++
+            last[from[word]] = line[word]
+            count++
+        }
     }
+    operation ~ /^(inc|dec|neg|not|pop)/ && text ~ /[ \t]%[a-z0-9]+$/ { written[substr(text, match(text, /%[a-z0-9]+$/))] = NR }
     # What each register has: of a load that is where it was loaded from.
     into != "" && operation !~ /^(cmp|test|bt)/ {
+        written[into] = NR
         is_whole = operation == "mov" && into ~ /^%r/ && into !~ /^%r[0-9]+[dwb]$/
         is_field = place ~ /%rsp/ || place ~ /^0x([4-9a-f][0-9a-f]|[0-9a-f][0-9a-f][0-9a-f]+)\(/
         copied = operation == "mov" && text ~ /[ \t]%r[a-z0-9]+,%r[a-z0-9]+$/ ? text : ""
@@ -56,6 +70,7 @@ awk -v least=$least '
         sub(/,.*/, "", copied)
         from[into] = copied != "" ? from[copied] : place == "" || is_field || operation !~ /^mov/ ? "" : is_whole ? place : "part"
         delete first[into]
+        line[into] = copied != "" ? line[copied] : NR
         if (text ~ /^movabs[ \t]+\$0xffffab0000000000,/) first[into] = 1
     }
     END {
