@@ -1,5 +1,5 @@
 -- A claim and a look keep the rule of the table.
-use Rattle.std.proofs.Common.{◌≡◌, ◌≢◌, ℕ, ◌+◌, ◌*◌, ◌/◌, ◌%◌, ◌<◌, ◌≤◌, Bool, true, false, cond, ◌==◌, eq-eqb, ne_eqb, List, ◌∷◌, length, get_or, set, refl, sym, ap, ◌∙◌, subst, arith, ⊎_elim, length-set, get_or-set_same}
+use Rattle.std.proofs.Common.{◌≡◌, ◌≢◌, ℕ, ◌+◌, ◌/◌, ◌%◌, ◌<◌, ◌≤◌, Bool, true, false, cond, ◌==◌, eq-eqb, ne_eqb, List, ◌∷◌, length, get_or, set, refl, sym, ap, ◌∙◌, subst, arith, ⊎_elim, length-set, get_or-set_same}
 use Rattle.std.proofs.lemmas.List.{set-get_or}
 use Rattle.std.specs.Int.{bit_at}
 use Rattle.std.specs.Int.RustNames.{bit_or}
@@ -30,14 +30,14 @@ one_true false h = absurd (omega arith)
 grown : (start : List Bool) (words more : List ℕ) (v : ClaimerView) → ((k : ℕ) → bit words k ≡ true → bit more k ≡ true) → IsTrueOf start words v → IsTrueOf start more v
 grown start words more v up is = record { same = is.same; known = λ k h. up k (is.known k h); idle = is.idle }
 
-module _ (start : List Bool) (s : St) (rule : IsWonOnce start s) (id : ℕ) (v : ClaimerView) (at : get_elem? s.views id ≡ some v) where
+module _ (start : List Bool) (count : ℕ) (s : St) (rule : IsWonOnce start count s) (id : ℕ) (v : ClaimerView) (at : get_elem? s.views id ≡ some v) where
   -- the word i has become y and the claimer's view w: no bit went, and won lists and bits changed together
   moved : (i y : ℕ) (w : ClaimerView) (c : List (ℕ × Unit {0}))
       → ((k : ℕ) → bit s.words k ≡ true → bit (set s.words i y) k ≡ true)
       → ((k : ℕ) → times k w.won + one (bit s.words k) ≡ times k v.won + one (bit (set s.words i y) k))
-      → w.right ≡ v.right → IsTrueOf start (set s.words i y) w → IsWonOnce start (stepped s i y id c w keeps)
+      → w.right ≡ v.right → IsTrueOf start (set s.words i y) w → IsWonOnce start count (stepped s i y id c w keeps)
   moved i y w c up even right is = record {
-    size = ap (λ n. 64 * n) (length-set s.words i y) ∙ rule.size;
+    size = length-set s.words i y ∙ rule.size;
     whole = λ d le.
         let cuts = total-set (λ u. u.right.1) s.views id v w at in let same : w.right.1 ≡ v.right.1 = ap (λ (r : ℕ × ℕ). r.1) right in
         let t = total-set (λ u. scaled d u.right) s.views id v w at in let part : scaled d w.right ≡ scaled d v.right = ap (scaled d) right in
@@ -106,9 +106,9 @@ module _ (words : List ℕ) (k : ℕ) (inside : k / 64 < length words) (v : Clai
   evenly = ⊎_elim first_claim late_claim (cases_eq found 0)
 
 -- a claim: one fetch_or
-pub claims : (start : List Bool) (slots id : ℕ) (me : Mine) (k : ℕ) → 0 < me.0.right.0 → k < length start
-    → Allows (IsWonOnce start) slots id me (k / 64) (λ n. bit_or n (mask k)) (claimed (step slots (k / 64) (mask k) 0 none) me)
-claims start slots id me k some_part lt s rule homes at small =
+pub claims : (start : List Bool) (count slots id : ℕ) (me : Mine) (k : ℕ) → 0 < me.0.right.0 → k / 64 < count
+    → Allows (IsWonOnce start count) slots id me (k / 64) (λ n. bit_or n (mask k)) (claimed (step slots (k / 64) (mask k) 0 none) me)
+claims start count slots id me k some_part lt s rule homes at small =
     let v : ClaimerView = me.0 in
     let n : ℕ = get_or s.words (k / 64) 0 in
     let inside : k / 64 < length s.words = let size = rule.size in omega arith in
@@ -122,17 +122,17 @@ claims start slots id me k some_part lt s rule homes at small =
       after_claim v k n,
       keeps,
       tt,
-      moved start s rule id v at (k / 64) (bit_or n (mask k)) (after_claim v k n) me.1 up (λ j. evenly s.words k inside v j) refl true_of,
+      moved start count s rule id v at (k / 64) (bit_or n (mask k)) (after_claim v k n) me.1 up (λ j. evenly s.words k inside v j) refl true_of,
       (
         refl,
-        (λ j word power. subst (λ i. (after_claim v k n ≡ after_claim v i n) × Finds v i n) (same_bit j k word power) (refl, finds start s rule id v at some_part k)),
+        (λ j word power. subst (λ i. (after_claim v k n ≡ after_claim v i n) × Finds v i n) (same_bit j k word power) (refl, finds start count s rule id v at some_part k)),
       ),
     )
 
 -- a look at a word: one load
-pub looks : (start : List Bool) (slots id : ℕ) (me : Mine) (i : ℕ) → 0 < me.0.right.0
-    → Allows (IsWonOnce start) slots id me i (λ n. n) (looked (step slots i 0 0 none) me)
-looks start slots id me i some_part s rule homes at small =
+pub looks : (start : List Bool) (count slots id : ℕ) (me : Mine) (i : ℕ) → 0 < me.0.right.0
+    → Allows (IsWonOnce start count) slots id me i (λ n. n) (looked (step slots i 0 0 none) me)
+looks start count slots id me i some_part s rule homes at small =
     let v : ClaimerView = me.0 in
     let n : ℕ = get_or s.words i 0 in
     let is = rule.views id v at in
@@ -145,10 +145,10 @@ looks start slots id me i some_part s rule homes at small =
       after_look v i n,
       keeps,
       tt,
-      moved start s rule id v at i n (after_look v i n) me.1
+      moved start count s rule id v at i n (after_look v i n) me.1
           (λ k h. ap (λ ws. bit ws k) same ∙ h)
           (λ k. ap (λ b. times k v.won + one b) (sym (ap (λ ws. bit ws k) same)))
           refl
           (subst (λ ws. IsTrueOf start ws (after_look v i n)) (sym same) true_of),
-      (refl, refl, (λ k word. subst (λ j. Finds v k (get_or s.words j 0)) word (finds start s rule id v at some_part k))),
+      (refl, refl, (λ k word. subst (λ j. Finds v k (get_or s.words j 0)) word (finds start count s rule id v at some_part k))),
     )

@@ -1,27 +1,31 @@
 -- The first claimer, new claimers and claimers that come back keep the rule of the table, and the last one knows all that was won.
-use Rattle.std.proofs.Common.{◌≡◌, ℕ, ◌+◌, ◌-◌, ◌*◌, ◌<◌, Bool, List, [], ◌∷◌, length, set, refl, sym, ap, subst, arith, ⊎_elim}
-use Rattle.std.proofs.lemmas.Bool.{false≢true}
+use Rattle.std.proofs.Common.{◌≡◌, ℕ, ◌+◌, ◌-◌, ◌/◌, ◌<◌, ◌≤◌, Bool, true, false, List, [], ◌∷◌, length, set, refl, sym, ap, ◌∙◌, subst, arith, ⊎_elim}
+use Rattle.std.proofs.lemmas.Bool.{cases_lt, false≢true}
 use mathlib.Core.Option.{some, some-ne-none}
 use lib.ListN.{get_elem?}
-use Rattle.words.specs.Bits.{bit, bits}
+use Rattle.words.specs.Bits.{bit}
 use Rattle.atomic_table.specs.Table.{State, opening, Splits, Joins}
 use Rattle.atomic_table.proofs.Lists.{at_set, at_snoc}
 use Rattle.mark_bits.specs.declared.claimer_view.ClaimerView.{ClaimerView}
-use Rattle.mark_bits.specs.Claims.{times, one, has, HasAll, doubled, first_view, kept_part, cut_part, joined, spent}
+use Rattle.mark_bits.specs.Claims.{times, one, has, knows, Gathers, HasAll, doubled, first_view, kept_part, cut_part, joined, spent}
 use Rattle.mark_bits.specs.Rule.{IsTrueOf, IsWonOnce, scaled, total}
 use Rattle.mark_bits.proofs.Halves.{both-scaled, doubled-none, doubled-pos, doubled-zero, halves, scaled-all}
 use Rattle.mark_bits.proofs.Sums.{total-set, total-append, part_of_total, two_of_total, all_in_one, times-append}
-use Rattle.mark_bits.proofs.Words.{has-bits, shows-append}
+use Rattle.mark_bits.proofs.Words.{bit_past, shows-append}
+
+one_false : (b : Bool) → one b ≡ 0 → b ≡ false
+one_false true h = absurd (omega arith)
+one_false false h = refl
 
 abbrev St : Type 0
 St = State (Unit {0}) ClaimerView
 
 -- the table at the start
-pub opens : (start : List Bool) (words : List ℕ) → bits words (length start) ≡ start → 64 * length words ≡ length start → IsWonOnce start (opening words [] (first_view start))
-opens start words is size = record {
+pub opens : (start : List Bool) (count : ℕ) (words : List ℕ) → length words ≡ count → ((k : ℕ) → has start k ≡ bit words k) → IsWonOnce start count (opening words [] (first_view start))
+opens start count words size is = record {
   size = size;
   whole = λ d le. let e : doubled 1 (d - 0) ≡ doubled 1 d = ap (doubled 1) (let a : d - 0 ≡ d = omega arith in a) in omega arith;
-  once = λ k. let e : one (has start k) ≡ one (bit words k) = ap one (has-bits words start k is size) in omega arith;
+  once = λ k. let e : one (has start k) ≡ one (bit words k) = ap one (is k) in omega arith;
   views = λ id v h. ⊎_elim
       (λ q. absurd (some-ne-none v (sym q)))
       (λ (e : first_view start ≡ v). subst (IsTrueOf start words) e (record { same = λ q. refl; known = λ k q. absurd (false≢true q); idle = λ none. refl }))
@@ -29,8 +33,8 @@ opens start words is size = record {
 }
 
 -- a claimer is cut in two
-pub splits : (start : List Bool) (id : ℕ) (v : ClaimerView) → Splits (IsWonOnce start) id v (kept_part v) (cut_part v)
-splits start id v s rule at =
+pub splits : (start : List Bool) (count id : ℕ) (v : ClaimerView) → Splits (IsWonOnce start count) id v (kept_part v) (cut_part v)
+splits start count id v s rule at =
     let is = rule.views id v at in
     let kept : IsTrueOf start s.words (kept_part v) = record { same = is.same; known = is.known; idle = is.idle } in
     let cut : IsTrueOf start s.words (cut_part v) = record { same = is.same; known = is.known; idle = λ none. refl } in
@@ -58,8 +62,8 @@ splits start id v s rule at =
     }
 
 -- two claimers become one
-pub joins : (start : List Bool) (id : ℕ) (v : ClaimerView) (other : ℕ) (w : ClaimerView) → 0 < v.right.0 → Joins (IsWonOnce start) id v other w (joined v w) spent
-joins start id v other w some_part s rule at apart at' =
+pub joins : (start : List Bool) (count id : ℕ) (v : ClaimerView) (other : ℕ) (w : ClaimerView) → 0 < v.right.0 → Joins (IsWonOnce start count) id v other w (joined v w) spent
+joins start count id v other w some_part s rule at apart at' =
     let is = rule.views id v at in
     let old : get_elem? s.views other ≡ some w = ⊎_elim (λ t. absurd (apart t.0)) (λ t. t.1) (at_set s.views id other (joined v w) w at') in
     let is' = rule.views other w old in
@@ -97,12 +101,36 @@ joins start id v other w some_part s rule at apart at' =
     }
 
 -- the claimer with the whole right has won all that was won
-pub settled : (start : List Bool) (s : St) (id : ℕ) (v : ClaimerView) → IsWonOnce start s → get_elem? s.views id ≡ some v → HasAll v
+pub settled : (start : List Bool) (count : ℕ) (s : St) (id : ℕ) (v : ClaimerView) → IsWonOnce start count s → get_elem? s.views id ≡ some v → HasAll v
     → (k : ℕ) → times k v.won + one (has start k) ≡ one (bit s.words k)
-settled start s id v rule at all k =
+settled start count s id v rule at all k =
     let d : ℕ = total (λ u. u.right.1) s.views in
     let deep = part_of_total (λ u. u.right.1) s.views id v at in
     let p = rule.whole d (omega arith) in
     let mine = scaled-all v.right.0 v.right.1 d deep all in
     let t = all_in_one (λ u. times k u.won) (λ u. scaled d u.right) s.views id v (λ j u h none. ap (times k) ((rule.views j u h).idle (doubled-zero u.right.0 (d - u.right.1) none))) at (omega arith) in
     let o = rule.once k in omega arith
+
+-- past the words of the table no bit was set at the start
+clear_past : (start : List Bool) (count : ℕ) (s : St) → IsWonOnce start count s → (k : ℕ) → count ≤ k / 64 → has start k ≡ bit s.words k
+clear_past start count s rule k past =
+    let size = rule.size in
+    let none : bit s.words k ≡ false = bit_past s.words k (omega arith) in
+    let zero : one (bit s.words k) ≡ 0 = ap one none in
+    let o = rule.once k in one_false (has start k) (omega arith) ∙ sym none
+
+-- the words of the closed table were copied into the marks, which past them are still those at the start
+module _ (start marks : List Bool) (count : ℕ) (s : St) (words : List ℕ) (id : ℕ) (v : ClaimerView) (rule : IsWonOnce start count s) (at : get_elem? s.views id ≡ some v) (is : s.words ≡ words)
+    (inside : (k : ℕ) → k / 64 < count → has marks k ≡ bit words k) (past : (k : ℕ) → count ≤ k / 64 → has marks k ≡ has start k) where
+  copied : (k : ℕ) → has marks k ≡ bit s.words k
+  copied k =
+      ⊎_elim
+      (λ lt. inside k lt ∙ sym (ap (λ ws. bit ws k) is))
+      (λ out. past k (omega arith) ∙ clear_past start count s rule k (omega arith))
+      (cases_lt (k / 64) count)
+
+  pub copied-gathers : length marks ≡ length start → HasAll v → Gathers start v.won marks
+  copied-gathers size all = record { size = size; once = λ k. settled start count s id v rule at all k ∙ ap one (sym (copied k)) }
+
+  pub copied-known : (k : ℕ) → knows v k ≡ true → has marks k ≡ true
+  copied-known k h = copied k ∙ (rule.views id v at).known k h

@@ -9,7 +9,7 @@ use Rattle.std.proofs.lemmas.Nat.Bits.{bit_at-zero, bit_at_set_same, bit_at_set_
 use mathlib.Core.Option.{some, some-injective, some-ne-none}
 use native.Mathlib.Decide.{ℕ_discrete}
 use lib.ListN.{get_elem?}
-use Rattle.words.specs.Bits.{bit, bits}
+use Rattle.words.specs.Bits.{bit, bits, IsEmptyFrom}
 use Rattle.words.proofs.Rows.{bit_here, bit_else, length-bits, get_or-bits}
 use Rattle.mark_bits.specs.declared.claimer_view.ClaimerView.{ClaimerView}
 use Rattle.mark_bits.specs.Claims.{shows, knows, has}
@@ -28,15 +28,28 @@ has-bits words row k is size =
     (λ past. get_or_past row k false (omega arith) ∙ sym (bit_past words k (omega arith)))
     (cases_lt k (length row))
 
+-- the same of words that end before the row does, past which it has none
+pub has-below : (words : List ℕ) (row : List Bool) (end k : ℕ) → 64 * length words ≡ end → IsEmptyFrom row end → ((j : ℕ) → j < end → bit words j ≡ has row j) → has row k ≡ bit words k
+has-below words row end k size none below =
+    ⊎_elim
+    (λ lt. sym (below k lt))
+    (λ past.
+    let clear : has row k ≡ false = ⊎_elim (λ lt. none k (omega arith) lt) (λ out. get_or_past row k false (omega arith)) (cases_lt k (length row)) in
+    clear ∙ sym (bit_past words k (omega arith)))
+    (cases_lt k end)
+
 -- the words past those of a row may go
-pub bits-take : (words : List ℕ) (n : ℕ) → 64 * (n / 64) ≡ n → bits (take (n / 64) words) n ≡ bits words n
+pub bit-take : (words : List ℕ) (n k : ℕ) → k / 64 < n → bit (take n words) k ≡ bit words k
 unfolding bit
+bit-take words n k lt = ap (λ x. bit_at x (k % 64) == 1) (get_or-take n words (k / 64) 0 lt)
+
+pub bits-take : (words : List ℕ) (n : ℕ) → 64 * (n / 64) ≡ n → bits (take (n / 64) words) n ≡ bits words n
 bits-take words n whole =
     same_lists _ _ (length-bits _ n ∙ sym (length-bits _ n))
     (λ k d lt.
     let inside : k < n = rw length-bits at lt in
     get_or-bits (take (n / 64) words) n k d inside
-    ∙ ap (λ x. bit_at x (k % 64) == 1) (get_or-take (n / 64) words (k / 64) 0 (omega arith))
+    ∙ bit-take words (n / 64) k (omega arith)
     ∙ sym (get_or-bits words n k d inside))
 
 -- the words after a claim of the bit k

@@ -24,12 +24,12 @@ pub record IsTrueOf (start : List Bool) (words : List ℕ) (v : ClaimerView) : T
 abbrev pub scaled : ℕ → ℕ × ℕ → ℕ
 scaled d r = doubled r.0 (d - r.1)
 
--- The rule: the table's words, its parts and its won lists agree.
-pub record IsWonOnce (start : List Bool) (s : State (Unit {0}) ClaimerView) : Type 0 where
-  pub size : 64 * length s.words ≡ length start
+-- The rule: the table has so many words, and they, its parts and its won lists agree.
+pub record IsWonOnce (start : List Bool) (count : ℕ) (s : State (Unit {0}) ClaimerView) : Type 0 where
+  pub size : length s.words ≡ count
   -- all parts are the whole, cut as finely as any of them
   pub whole : (d : ℕ) → total (λ v. v.right.1) s.views ≤ d → total (λ v. scaled d v.right) s.views ≡ doubled 1 d
-  -- a set bit was set at the start or was won once, and a clear one neither
+  -- a set bit was set at the start or was won once, and a clear one neither. Past the words every bit is clear
   pub once : (k : ℕ) → total (λ v. times k v.won) s.views + one (has start k) ≡ one (bit s.words k)
   pub views : (id : ℕ) (v : ClaimerView) → get_elem? s.views id ≡ some v → IsTrueOf start s.words v
 

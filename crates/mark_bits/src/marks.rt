@@ -1,7 +1,7 @@
 //! The set of marked granules, seen as one `bool` a granule of the heap.
 ghost use Rattle.std.specs.Prelude.{◌≡◌, ◌≢◌, ℕ, ◌+◌, ◌*◌, ◌/◌, ◌%◌, ◌<◌, ◌≤◌, ◌==◌, true, false, length, slice_index_or, slice_set, IfOk};
 ghost use Rattle.std.specs.Int.{bit_at};
-ghost use Rattle.words.specs.Bits.{bits, IsClear, IsEmptyFrom};
+ghost use Rattle.words.specs.Bits.{bit, bits, IsClear, IsEmptyFrom};
 ghost use Rattle.words.specs.declared.limits.TheConstants.{MOST_PAGES, PAGE_GRANULES};
 ghost use Rattle.mark_bits.specs.Granules.{marks_on};
 
@@ -41,6 +41,7 @@ impl Marks {
     /// How many granules the heap has.
     pub fn granules(&self) -> usize
         ensures count { result ≡ length self.now }
+        ensures some { 0 < result }
         ensures limit { result ≤ PAGE_GRANULES * MOST_PAGES }
     {
         self.row.len()
@@ -112,6 +113,15 @@ impl Marks {
         ensures some { 0 < length result.now }
     {
         &self.row.as_words()[..self.row.len() / 64]
+    }
+
+    // The words of the first `used` pages.
+    pub(crate) fn words_below(&self, used: PageNo) -> &[u64]
+        requires { PAGE_GRANULES * used ≤ length self.now }
+        ensures size { 64 * length result.now ≡ PAGE_GRANULES * used }
+        ensures bits { (k : ℕ) → k < PAGE_GRANULES * used → bit result.now k ≡ slice_index_or self.now k false }
+    {
+        &self.as_words()[..PAGE_GRANULES as usize / 64 * used as usize]
     }
 
     // Gives the bits of the word j those of `word`.

@@ -1,9 +1,10 @@
 //! The marks while several threads claim them.
 //!
 //! docs/CRATES.md tells the rest: who holds what, and when.
-ghost use Rattle.std.specs.Prelude.{◌≡◌, ℕ, ◌*◌, ◌<◌, length, true, false, ◌∷◌, if◌then◌else◌, slice_index_or, IfOk, IfErr};
+ghost use Rattle.std.specs.Prelude.{◌≡◌, ℕ, ◌*◌, ◌/◌, ◌<◌, ◌≤◌, length, true, false, ◌∷◌, if◌then◌else◌, slice_index_or, IfOk, IfErr};
 ghost use Rattle.std.specs.Slots.{slots_items, slots_len, IsFull};
-ghost use Rattle.words.specs.Bits.{bit};
+ghost use Rattle.words.specs.Bits.{bit, IsEmptyFrom};
+ghost use Rattle.words.specs.declared.limits.TheConstants.{PAGE_GRANULES};
 ghost use Rattle.words.specs.declared.refusal.OpenError.TheVariants.{Memory};
 ghost use Rattle.mark_bits.specs.Claims.{first_view, kept_part, cut_part, joined, knows, Gathers, HasAll, LearnsMore};
 ghost use Rattle.mark_bits.specs.Rule.{IsClaim};
@@ -12,18 +13,26 @@ use crate::claimer_view::ClaimerView;
 use crate::marks::Marks;
 use atomic_table::{Closed, Join, Play, Seat, Split, Table, TableRule};
 use std::alloc::Global;
-use words::OpenError;
+use std::snapshot::Snapshot;
+use words::{OpenError, PageNo};
+
+// What a table is told when it is made: the marks then, and how many words it has.
+#[derive(Drop)]
+struct Origin {
+    marks: Snapshot<Marks>,
+    words: usize,
+}
 
 // The rule: each bit that is set was set at the start or was won once.
 struct WonOnce;
 
-impl TableRule<(), ClaimerView, Marks> for WonOnce {
+impl TableRule<(), ClaimerView, Origin> for WonOnce {
     ghost use Rattle.mark_bits.specs.Rule.{IsWonOnce};
     ghost use Rattle.mark_bits.specs.Claims.{first_view};
 
-    ghost holds = { IsWonOnce };
+    ghost holds = { λ origin. IsWonOnce origin.marks.value origin.words };
 
-    ghost first = { first_view };
+    ghost first = { λ origin. first_view origin.marks.value };
 }
 
 // What `fetch_or` tells: the word as it was, and so whether the bit is won.
@@ -63,11 +72,12 @@ impl Join<ClaimerView> for Parts {
     ghost spent = { spent };
 }
 
-/// The marks while several threads claim them.
+/// The marks while several threads claim them. It has the words of the first pages, and what is past those pages isn't claimed.
 #[derive(Drop)]
 pub struct MarkTable {
-    table: Table<(), ClaimerView, Marks, WonOnce, Global>,
-    ghost whole: { 64 * table.shared.table_id.words ≡ length table.shared.key },
+    table: Table<(), ClaimerView, Origin, WonOnce, Global>,
+    ghost inside: { 64 * table.shared.table_id.words ≤ length table.shared.key.marks.value },
+    ghost told: { table.shared.key.words ≡ table.shared.table_id.words },
     ghost some: { 0 < table.shared.table_id.words },
     ghost no_slot: { table.shared.table_id.slots ≡ 0 },
 }
@@ -81,16 +91,29 @@ pub struct Claimer {
 }
 
 impl MarkTable {
-    ghost use Rattle.mark_bits.specs.Tables.{view, start_of, IsOf};
+    ghost use Rattle.mark_bits.specs.Tables.{view, start_of, granules_of, IsOf};
 
-    /// A table that begins with the bits of the marks, and the claimer that has all of it. The one error is
-    /// [`OpenError::Memory`].
-    pub fn new(alloc: Global, marks: &Marks) -> Result<(MarkTable, Claimer), OpenError>
+    /// A table that begins with the bits of the marks, and the claimer that has all of it. It has the words of the first `used` pages
+    /// alone, since no mark is on a page from there on. The one error is [`OpenError::Memory`].
+    pub fn new(
+        alloc: Global,
+        marks: &Marks,
+        used: PageNo,
+    ) -> Result<(MarkTable, Claimer), OpenError>
+        requires some { 0 < used }
+        requires inside { PAGE_GRANULES * used ≤ length marks.now }
+        requires none { IsEmptyFrom marks.now (PAGE_GRANULES * used) }
         ensures table { IfOk result (λ made. (start_of made.0 ≡ marks.now) × IsOf made.0 made.1) }
+        ensures granules { IfOk result (λ made. granules_of made.0 ≡ PAGE_GRANULES * used) }
         ensures claimer { IfOk result (λ made. view made.1 ≡ first_view marks.now) }
         ensures err { IfErr result (λ error. error ≡ Memory) }
     {
-        let (table, seat) = Table::of_words(alloc, marks.as_words(), marks)?;
+        let words = marks.words_below(used);
+        let origin = Origin {
+            marks: Snapshot::of(marks),
+            words: words.len(),
+        };
+        let (table, seat) = Table::of_words(alloc, words, &origin)?;
         Ok((MarkTable { table }, Claimer { seat }))
     }
 
@@ -122,7 +145,7 @@ impl MarkTable {
     /// bit that was not set at the start, it is the first.
     pub fn claim(&self, me: &mut Claimer, bit: usize) -> bool
         requires of { IsOf self.now me.old }
-        requires bit { bit < length (start_of self.now) }
+        requires bit { bit < granules_of self.now }
         ensures of { IsOf self.now me.new }
         ensures step { IsClaim (view me.old) (view me.new) bit result }
         ensures learns { LearnsMore (view me.old) (view me.new) }
@@ -143,7 +166,7 @@ impl MarkTable {
     /// only for a set bit, which the claimer then knows.
     pub fn is_set(&self, me: &mut Claimer, bit: usize) -> bool
         requires of { IsOf self.now me.old }
-        requires bit { bit < length (start_of self.now) }
+        requires bit { bit < granules_of self.now }
         ensures of { IsOf self.now me.new }
         ensures learns { LearnsMore (view me.old) (view me.new) }
         ensures won { (view me.new).won ≡ (view me.old).won }
@@ -156,11 +179,12 @@ impl MarkTable {
         (found >> (bit % 64)) & 1 == 1
     }
 
-    /// Puts the bits of the table into the marks. It takes the claimer to which all others were joined.
+    /// Puts the bits of the table into the marks, which nobody changed since it was made. It takes the claimer to which all others
+    /// were joined.
     pub fn finish(self, claimer: Claimer, marks: &mut Marks)
         requires of { IsOf self claimer }
         requires all { HasAll (view claimer) }
-        requires size { length marks.old ≡ length (start_of self) }
+        requires same { marks.old ≡ start_of self }
         ensures gathered { Gathers (start_of self) (view claimer).won marks.new }
         ensures known { (k : ℕ) → knows (view claimer) k ≡ true → slice_index_or marks.new k false ≡ true }
     {
@@ -172,14 +196,15 @@ impl MarkTable {
     }
 }
 
-// The bits of the closed table become the marks.
+// The words of the closed table become the first ones of the marks.
 fn copy_words(closed: &Closed<(), Global>, marks: &mut Marks)
     requires full { IsFull closed.now.words }
-    requires words { 64 * slots_len closed.now.words ≡ length marks.old }
+    requires inside { 64 * slots_len closed.now.words ≤ length marks.old }
     ensures size { length marks.new ≡ length marks.old }
-    ensures bits { (k : ℕ) → slice_index_or marks.new k false ≡ bit (slots_items closed.now.words) k }
+    ensures copied { (k : ℕ) → k / 64 < slots_len closed.now.words → slice_index_or marks.new k false ≡ bit (slots_items closed.now.words) k }
+    ensures past { (k : ℕ) → slots_len closed.now.words ≤ k / 64 → slice_index_or marks.new k false ≡ slice_index_or marks.old k false }
 {
-    for j in 0..marks.granules() / 64 {
+    for j in 0..closed.words.len() {
         marks.set_word(j, closed.word(j));
     }
 }

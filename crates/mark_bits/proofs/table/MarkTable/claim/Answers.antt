@@ -1,4 +1,4 @@
-use Rattle.std.proofs.Common.{◌<◌, length, refl, sym, ap, ◌∙◌, subst, arith}
+use Rattle.std.proofs.Common.{◌/◌, ◌<◌, length, refl, sym, ap, ◌∙◌, subst, arith}
 use Rattle.mark_bits.specs.declared.claimer_view.ClaimerView.{ClaimerView}
 use Rattle.mark_bits.specs.Claims.{knows}
 use Rattle.mark_bits.proofs.Claiming.{claims}
@@ -8,8 +8,9 @@ use Rattle.mark_bits.proofs.table.MarkTable.claim.Goals as goal
 pub fetch_or-found-requires : goal.fetch_or-found-requires
 fetch_or-found-requires c =
     let table = c.args.self.now in
-    let whole = table.whole in let inside = c.requires.bit in
-    (c.requires.of.table, omega arith, claims table.table.shared.key _ _ _ c.args.bit c.args.me.now.part inside)
+    let told = table.told in let bit = c.requires.bit in
+    let inside : c.args.bit / 64 < table.table.shared.key.words = omega arith in
+    (c.requires.of.table, omega arith, claims table.table.shared.key.marks.value _ _ _ _ c.args.bit c.args.me.now.part inside)
 
 pub invariant_of-me : goal.invariant_of-me
 invariant_of-me c =

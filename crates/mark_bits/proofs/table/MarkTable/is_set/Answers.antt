@@ -5,5 +5,5 @@ use Rattle.mark_bits.proofs.table.MarkTable.is_set.Goals as goal
 pub load-found-requires : goal.load-found-requires
 load-found-requires c =
     let table = c.args.self.now in
-    let whole = table.whole in let inside = c.requires.bit in
-    (c.requires.of.table, omega arith, looks table.table.shared.key _ _ _ _ c.args.me.now.part)
+    let bit = c.requires.bit in
+    (c.requires.of.table, omega arith, looks table.table.shared.key.marks.value _ _ _ _ _ c.args.me.now.part)

@@ -7,7 +7,7 @@ use Rattle.mark_bits.proofs.table.MarkTable.join.Goals as goal
 pub join_seat-requires : goal.join_seat-requires
 join_seat-requires c =
     let table = c.args.self.now in
-    (c.requires.me.table, c.requires.other.table, nil_from_length _ c.args.other.no_slot, table.some, joins table.table.shared.key _ _ _ _ c.args.me.now.part)
+    (c.requires.me.table, c.requires.other.table, nil_from_length _ c.args.other.no_slot, table.some, joins table.table.shared.key.marks.value _ _ _ _ _ c.args.me.now.part)
 
 pub invariant_of-me : goal.invariant_of-me
 invariant_of-me c =
