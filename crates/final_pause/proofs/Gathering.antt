@@ -27,31 +27,32 @@ use Rattle.marker.proofs.Settling.{entry_in}
 use Rattle.marker.proofs.Closures.{same_object}
 use Rattle.each_law.specs.Jobs.{HaveRun}
 use Rattle.final_pause.specs.declared.helper.Helper.{Helper}
-use Rattle.final_pause.specs.declared.share.Pause.{Pause}
+use Rattle.final_pause.specs.Pauses.{PauseView}
 use Rattle.final_pause.specs.Helping.{found, word_in, IsTargetKnown, IsWordRead}
 use Rattle.final_pause.specs.Dealing.{rank}
 use Rattle.final_pause.specs.Serving.{IsReachable, IsEntryRead, HasServed}
 use Rattle.final_pause.specs.Gathering.{AreNumbered, IsPlaceRead, HasGathered}
+use Rattle.final_pause.specs.Rounds.{DirtiesNew}
 use Rattle.final_pause.proofs.Knowing.{none_in}
 use Rattle.final_pause.proofs.Growing.{word_more}
 use Rattle.final_pause.proofs.Serving.{share_more}
 
 -- each helper was run, and each had the share of its place
-pub served_at : {p : Pause} {old new : List Helper} → HaveRun (λ a b. HasServed p a.share.place b) old new → AreNumbered old → (i : ℕ) (d : Helper) → i < length new → HasServed p i (get_or new i d)
+pub served_at : {p : PauseView} {old new : List Helper} → HaveRun (λ a b. HasServed p a.share.place b) old new → AreNumbered old → (i : ℕ) (d : Helper) → i < length new → HasServed p i (get_or new i d)
 served_at {p} {old} {new} run numbered i d lt =
     let size = run.size in
     let lt' : i < length old = omega (arith, lt, size) in
     subst (λ (s : ℕ). HasServed p s (get_or new i d)) (numbered i d lt') (run.each i d d lt')
 
 -- what was dealt to a place stays read where more is known
-place_more : (p : Pause) (v w : ClaimerView) (c d : List Bool) → ((k : ℕ) → knows v k ≡ true → knows w k ≡ true) → ((q : ℕ) → Has c q → Has d q) → (place : ℕ) → IsPlaceRead p v c place → IsPlaceRead p w d place
+place_more : (p : PauseView) (v w : ClaimerView) (c d : List Bool) → ((k : ℕ) → knows v k ≡ true → knows w k ≡ true) → ((q : ℕ) → Has c q → Has d q) → (place : ℕ) → IsPlaceRead p v c place → IsPlaceRead p w d place
 place_more p v w c d more carried place h = record { share = h.share; here = h.here; dealt = h.dealt; read = share_more p v w c d more carried h.share h.read }
 
-module _ (p : Pause) where
+module _ (p : PauseView) where
   -- one more helper is joined
   pub gathers_next : (low : ℕ) (first first' : Claimer) (dirty dirty' carried carried' : List Bool) (h : Helper)
       → HasGathered p (low + 1) first dirty carried → HasServed p low h
-      → IsOf p.table.now first' → view first' ≡ joined (view first) (view h.claimer) → length dirty' ≡ length dirty
+      → IsOf p.table first' → view first' ≡ joined (view first) (view h.claimer) → length dirty' ≡ length dirty
       → ((q : ℕ) → Has dirty' q → Has dirty q ⊎ Has h.dirty q) → ((q : ℕ) → Has dirty q → Has dirty' q) → ((q : ℕ) → Has h.dirty q → Has dirty' q) → length carried' ≡ length carried
       → ((q : ℕ) → Has carried' q → Has carried q ⊎ Has h.carried q) → ((q : ℕ) → Has carried q → Has carried' q) → ((q : ℕ) → Has h.carried q → Has carried' q)
       → HasGathered p low first' dirty' carried'
@@ -87,23 +88,23 @@ module _ (p : Pause) where
       }
 
 -- the table's bits are the marks, one row's pages the dirty ones, and the other's are carried too
-module _ {p : Pause} (first : Claimer) (dirty carried : List Bool) (new : Marking) (g : HasGathered p 0 first dirty carried)
-    (map : IsMap (length p.map.now) (found p)) (some : 0 < p.helpers) (start : start_of p.table.now ≡ p.marker.now.marks) (pages : length p.marker.now.dirty ≡ length p.map.now) (gathered : Gathers (start_of p.table.now) (view first).won new.marks)
+module _ {p : PauseView} (first : Claimer) (dirty carried : List Bool) (new : Marking) (g : HasGathered p 0 first dirty carried)
+    (map : IsMap (length p.map) (found p)) (some : 0 < p.helpers) (start : start_of p.table ≡ p.marker.marks) (pages : length p.marker.dirty ≡ length p.map) (gathered : Gathers (start_of p.table) (view first).won new.marks)
     (known : (k : ℕ) → knows (view first) k ≡ true → Has new.marks k) (row : new.dirty ≡ dirty)
-    (carried_len : length new.carried ≡ length p.marker.now.carried) (each : (q : ℕ) → Has new.carried q → Has p.marker.now.carried q ⊎ Has carried q)
-    (stays : (q : ℕ) → Has p.marker.now.carried q → Has new.carried q) (more : (q : ℕ) → Has carried q → Has new.carried q) where
+    (carried_len : length new.carried ≡ length p.marker.carried) (each : (q : ℕ) → Has new.carried q → Has p.marker.carried q ⊎ Has carried q)
+    (stays : (q : ℕ) → Has p.marker.carried q → Has new.carried q) (more : (q : ℕ) → Has carried q → Has new.carried q) where
   abbrev old : Marking
-  old = p.marker.now
+  old = p.marker
 
   was : (k : ℕ) → Has old.marks k → Has new.marks k
-  was k h = gathered-start (start_of p.table.now) (view first).won new.marks gathered k (subst (λ m. Has m k) (sym start) h)
+  was k h = gathered-start (start_of p.table) (view first).won new.marks gathered k (subst (λ m. Has m k) (sym start) h)
 
   either : (k : ℕ) → Has new.marks k → Has old.marks k ⊎ Contains (view first).won k
-  either k h = ⊎_elim (λ e. inl (subst (λ m. Has m k) start e)) (λ c. inr c) (gathered-each (start_of p.table.now) (view first).won new.marks gathered k h)
+  either k h = ⊎_elim (λ e. inl (subst (λ m. Has m k) start e)) (λ c. inr c) (gathered-each (start_of p.table) (view first).won new.marks gathered k h)
 
   is_new : (k : ℕ) → Contains (view first).won k → (Has old.marks k → ⊥) × Has new.marks k
   is_new k c =
-      let w = gathered-won (start_of p.table.now) (view first).won new.marks gathered k c in
+      let w = gathered-won (start_of p.table) (view first).won new.marks gathered k c in
       ((λ h. true≢false (sym (subst (λ m. Has m k) (sym start) h) ∙ w.1)), w.0)
 
   target : (w : ℕ) → IsTargetKnown p (view first) w → IsTargetMarked (found p) new w
@@ -120,7 +121,7 @@ module _ {p : Pause} (first : Claimer) (dirty carried : List Bool) (new : Markin
   read_dirty : (f : Found) → found p f.base ≡ Some f → f.kind ≡ Normal → IsMarked old f.base → (i : ℕ) → i < f.len → Has old.dirty (page_of (word_address f i)) → IsWordRead p (view first) carried f i
   read_dirty f o n m i lt d =
       let page : ℕ = page_of (word_address f i) in
-      let inside : page < length p.map.now = (let l = has_inside old.dirty page d in omega (arith, l, pages)) in
+      let inside : page < length p.map = (let l = has_inside old.dirty page d in omega (arith, l, pages)) in
       let above = (map.placed f.base f o).above in
       let turn : ℕ = rank old.dirty page in
       let place = g.shares (turn % p.helpers) (omega arith) (mod-lt turn some) in
@@ -148,7 +149,7 @@ module _ {p : Pause} (first : Claimer) (dirty carried : List Bool) (new : Markin
   still : (a w : ℕ) → IsSettled (found p) old a w → IsSettled (found p) new a w
   still a w = settled_grows (found p) old new (λ b h. was (granule b) h) pages_same stays a w
 
-  pub gathered_traces : Traces (found p) p.memory.now p.roots.now p.marker.now new
+  pub gathered_traces : Traces (found p) p.memory p.roots p.marker new
   gathered_traces = record {
     marks_len = gathered.size ∙ ap length start;
     dirty_len = pages_same;
@@ -156,7 +157,7 @@ module _ {p : Pause} (first : Claimer) (dirty carried : List Bool) (new : Markin
     objects = λ k h. ⊎_elim (λ e. inl e) (λ c. let r = g.within k c in inr (record { object = r.object; is = r.is; first = r.first })) (either k h);
     within = λ f o h. ⊎_elim
         (λ e. held o e)
-        (λ c. let r = g.within (granule f.base) c in subst (IsReachable p) (same_object (length p.map.now) (found p) map r.object f r.is o r.first) r.reached)
+        (λ c. let r = g.within (granule f.base) c in subst (IsReachable p) (same_object (length p.map) (found p) map r.object f r.is o r.first) r.reached)
         (either (granule f.base) h);
     dirtied = λ q h. let w = g.dirtied q (subst (λ d. Has d q) row h) in let n = is_new (granule w.0.base) w.2 in inr (w.0, (w.1, n.0, n.1), w.3);
     keeps = λ inv f o n h i lt. ⊎_elim
@@ -176,8 +177,12 @@ module _ {p : Pause} (first : Claimer) (dirty carried : List Bool) (new : Markin
         (either (granule f.base) h);
   }
 
-  pub gathered_roots : AreRootsMarked (found p) p.roots.now new
+  pub gathered_roots : AreRootsMarked (found p) p.roots new
   gathered_roots w (i, lt, e) =
-      let k : IsTargetKnown p (view first) (get_or p.roots.now i 0) =
+      let k : IsTargetKnown p (view first) (get_or p.roots i 0) =
       let place = g.shares (i % p.helpers) (omega arith) (mod-lt i some) in place.read.roots i lt (sym place.here) in
-      target w (subst (λ (n : ℕ). IsTargetKnown p (view first) n) (get_or_default p.roots.now i 0 w lt ∙ e) k)
+      target w (subst (λ (n : ℕ). IsTargetKnown p (view first) n) (get_or_default p.roots i 0 w lt ∙ e) k)
+
+  -- each dirty page is one of a newly marked object
+  pub gathered_dirty : DirtiesNew (found p) p.marker new
+  gathered_dirty q h = let w = g.dirtied q (subst (λ d. Has d q) row h) in let n = is_new (granule w.0.base) w.2 in (w.0, w.1, n.0, n.1, w.3)

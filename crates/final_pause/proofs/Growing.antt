@@ -20,7 +20,7 @@ use Rattle.marker.proofs.Closures.{at_base, same_object}
 use Rattle.marker.proofs.MarkWord.{markable, tells_none}
 use Rattle.marker.proofs.Words.{contains_word, run_words, word_of}
 use Rattle.final_pause.specs.declared.helper.Helper.{Helper}
-use Rattle.final_pause.specs.declared.share.Pause.{Pause}
+use Rattle.final_pause.specs.Pauses.{PauseView}
 use Rattle.final_pause.specs.Helping.{found, word_in, won_of, QueuesObject, HelperGrows, IsReadyPause, IsTargetKnown, IsWordRead, unknown, IsAwaitedBy, IsPageOfWon, IsPointedInto, ClaimsOnly, Visits, VisitsAll, IsWordOf, ReadsWords}
 use Rattle.final_pause.proofs.Knowing.{unknown_le, unknown_lt, contains_one, contains_cons, contains_more, contains_here}
 
@@ -43,8 +43,8 @@ lent_words memory words run pages f first n start placed fits size is lent same 
 pub tells_object : (found : ℕ → Option Found) (bytes w : ℕ) (g : Found) → found w ≡ Some g → TellsStray found bytes (w ∷ []) false
 tells_object found bytes w g e = tells_none found bytes w (inl (g, e))
 
-module _ (p : Pause) where
-  pub extends_refl : (h : Helper) → IsOf p.table.now h.claimer → HelperGrows p h h
+module _ (p : PauseView) where
+  pub extends_refl : (h : Helper) → IsOf p.table h.claimer → HelperGrows p h h
   extends_refl h of = record {
     of = of;
     share = refl;
@@ -57,6 +57,7 @@ module _ (p : Pause) where
     carried = λ q h. h;
     stack = λ b h. h;
     fresh = λ f e c. inl c;
+    own = λ o. o;
     left = omega arith;
   }
 
@@ -88,6 +89,7 @@ module _ (p : Pause) where
     fresh = λ f e k. ⊎_elim
         (λ m. ⊎_elim (λ o. inl o) (λ h. inr (λ n i lt. awaited_more b c y f i (h n i lt))) (x.fresh f e m))
         (λ h. inr h) (y.fresh f e k);
+    own = λ o. y.own (x.own o);
     left = (let s = x.left in let t = y.left in omega (arith, s, t));
   }
 
@@ -110,7 +112,7 @@ module _ (p : Pause) where
   target_is w g v e k h i = subst (λ (f : Found). knows v (granule f.base) ≡ true) (same_Some g h (sym e ∙ i)) k
 
   -- the word points into no object
-  pub visit_none : (w : ℕ) (h : Helper) → IsOf p.table.now h.claimer → ((g : Found) → found p w ≡ Some g → ⊥) → Visits p w h h
+  pub visit_none : (w : ℕ) (h : Helper) → IsOf p.table h.claimer → ((g : Found) → found p w ≡ Some g → ⊥) → Visits p w h h
   visit_none w h of none = record {
     extends = extends_refl h of;
     carried = refl;
@@ -119,17 +121,17 @@ module _ (p : Pause) where
   }
 
   -- the word lies outside of the heap
-  pub visit_outside : (w : ℕ) (h : Helper) → IsReadyPause p → IsOf p.table.now h.claimer → IsOutside (bytes_of p.marker.now) w → Visits p w h h
+  pub visit_outside : (w : ℕ) (h : Helper) → IsReadyPause p → IsOf p.table h.claimer → IsOutside (bytes_of p.marker) w → Visits p w h h
   visit_outside w h ready of out = visit_none w h of (λ g e.
       let r = ready.map.reads w g e in let at = ready.map.placed w g e in
       let from = r.from in let below = r.below in let above = at.above in let end = at.below in let pages = ready.pages in
       ⊎_elim (λ low. omega (arith, low, from, above)) (λ high. omega (arith, high, below, end, pages)) out)
 
   -- the object was marked by another, or before
-  pub visit_old : (w : ℕ) (g : Found) (old new : Helper) → found p w ≡ Some g → IsOf p.table.now new.claimer → new.stack ≡ old.stack → new.dirty ≡ old.dirty → new.carried ≡ old.carried → new.share ≡ old.share
+  pub visit_old : (w : ℕ) (g : Found) (old new : Helper) → found p w ≡ Some g → IsOf p.table new.claimer → new.stack ≡ old.stack → new.dirty ≡ old.dirty → new.carried ≡ old.carried → new.share ≡ old.share
       → LearnsMore (view old.claimer) (view new.claimer) → knows (view new.claimer) (granule g.base) ≡ true → won_of new ≡ won_of old → Visits p w old new
   visit_old w g old new e of st di ca sh le kn wo =
-      let u = unknown_le (length (start_of p.table.now)) (view old.claimer) (view new.claimer) le.known in
+      let u = unknown_le (length (start_of p.table)) (view old.claimer) (view new.claimer) le.known in
       let s : length new.stack.items ≡ length old.stack.items = ap (λ s. length s.items) st in record {
         extends = record {
           of = of;
@@ -143,6 +145,7 @@ module _ (p : Pause) where
           carried = λ q h. subst (λ d. Has d q) (sym ca) h;
           stack = λ k h. subst (λ s. Contains s.items k) (sym st) h;
           fresh = λ f o c. inl (subst (λ l. Contains l (granule f.base)) wo c);
+          own = λ o k c. subst (λ l. Contains l (granule k)) (sym wo) (o k (subst (λ s. Contains s.items k) st c));
           left = omega (arith, u, s);
         };
         carried = ca;
@@ -154,22 +157,22 @@ module _ (p : Pause) where
       }
 
   -- the claim was the first, and the object waits to be read
-  pub visit_new : (w : ℕ) (g : Found) (old mid new : Helper) → IsMap (length p.map.now) (found p) → length (start_of p.table.now) ≡ PAGE_GRANULES * length p.map.now → found p w ≡ Some g
-      → IsOf p.table.now mid.claimer → mid.stack ≡ old.stack → mid.dirty ≡ old.dirty → mid.carried ≡ old.carried → mid.share ≡ old.share
+  pub visit_new : (w : ℕ) (g : Found) (old mid new : Helper) → IsMap (length p.map) (found p) → length (start_of p.table) ≡ PAGE_GRANULES * length p.map → found p w ≡ Some g
+      → IsOf p.table mid.claimer → mid.stack ≡ old.stack → mid.dirty ≡ old.dirty → mid.carried ≡ old.carried → mid.share ≡ old.share
       → LearnsMore (view old.claimer) (view mid.claimer) → knows (view mid.claimer) (granule g.base) ≡ true → knows (view old.claimer) (granule g.base) ≡ false → won_of mid ≡ granule g.base ∷ won_of old
       → QueuesObject g mid new → Visits p w old new
   visit_new w g old mid new map size e of st di ca sh le kn un wo keep =
-      let base = at_base (length p.map.now) (found p) map w g e in
-      let inside = (markable (length p.map.now) (found p) w g (start_of p.table.now) map e size).1 in
+      let base = at_base (length p.map) (found p) map w g e in
+      let inside = (markable (length p.map) (found p) w g (start_of p.table) map e size).1 in
       let same : won_of new ≡ granule g.base ∷ won_of old = ap (λ c. (view c).won) keep.claimer ∙ wo in
       let le' : LearnsMore (view old.claimer) (view new.claimer) = subst (λ c. LearnsMore (view old.claimer) (view c)) (sym keep.claimer) le in
       let kn' : knows (view new.claimer) (granule g.base) ≡ true = ap (λ c. knows (view c) (granule g.base)) keep.claimer ∙ kn in
-      let u = unknown_lt (length (start_of p.table.now)) (granule g.base) (view old.claimer) (view new.claimer) le'.known inside un kn' in
+      let u = unknown_lt (length (start_of p.table)) (granule g.base) (view old.claimer) (view new.claimer) le'.known inside un kn' in
       let s : length mid.stack.items ≡ length old.stack.items = ap (λ s. length s.items) st in
       let z = keep.size in
       let won' : Contains (won_of new) (granule g.base) = subst (λ l. Contains l (granule g.base)) (sym same) (contains_here (granule g.base) (won_of old)) in record {
         extends = record {
-          of = subst (IsOf p.table.now) (sym keep.claimer) of;
+          of = subst (IsOf p.table) (sym keep.claimer) of;
           share = keep.share ∙ sh;
           learns = le';
           won = λ k c. subst (λ l. Contains l k) (sym same) (contains_more (granule g.base) k (won_of old) c);
@@ -181,9 +184,13 @@ module _ (p : Pause) where
           stack = λ k h. keep.stack k (subst (λ s. Contains s.items k) (sym st) h);
           fresh = λ f o c. ⊎_elim
               (λ (b : granule g.base ≡ granule f.base).
-              inr (subst (λ (h : Found). h.kind ≡ Normal → (i : ℕ) → i < h.len → IsAwaitedBy new h i) (same_object (length p.map.now) (found p) map g f base o b) keep.awaited))
+              inr (subst (λ (h : Found). h.kind ≡ Normal → (i : ℕ) → i < h.len → IsAwaitedBy new h i) (same_object (length p.map) (found p) map g f base o b) keep.awaited))
               (λ h. inl h)
               (contains_cons (granule g.base) (granule f.base) (won_of old) (subst (λ l. Contains l (granule f.base)) same c));
+          own = λ o k c. ⊎_elim
+              (λ h. subst (λ l. Contains l (granule k)) (sym same) (contains_more (granule g.base) (granule k) (won_of old) (o k (subst (λ s. Contains s.items k) st h))))
+              (λ (h : (k ≡ g.base) × (g.kind ≡ Normal)). subst (λ (n : ℕ). Contains (won_of new) (granule n)) (sym h.0) won')
+              (keep.entries k c);
           left = omega (arith, u, s, z);
         };
         carried = keep.carried ∙ ca;
@@ -200,7 +207,7 @@ module _ (p : Pause) where
         };
       }
 
-  pub visits_none : (h : Helper) → IsOf p.table.now h.claimer → VisitsAll p [] h h
+  pub visits_none : (h : Helper) → IsOf p.table h.claimer → VisitsAll p [] h h
   visits_none h of = record {
     extends = extends_refl h of;
     carried = refl;
@@ -223,10 +230,10 @@ module _ (p : Pause) where
   }
 
   -- a page has become carried, and nothing else has changed
-  extends_carried : (b c : Helper) → IsOf p.table.now b.claimer → c.claimer ≡ b.claimer → c.stack ≡ b.stack → c.dirty ≡ b.dirty → c.share ≡ b.share → length c.carried ≡ length b.carried → ((q : ℕ) → Has b.carried q → Has c.carried q)
+  extends_carried : (b c : Helper) → IsOf p.table b.claimer → c.claimer ≡ b.claimer → c.stack ≡ b.stack → c.dirty ≡ b.dirty → c.share ≡ b.share → length c.carried ≡ length b.carried → ((q : ℕ) → Has b.carried q → Has c.carried q)
       → HelperGrows p b c
   extends_carried b c of cl st di sh size more = record {
-    of = subst (IsOf p.table.now) (sym cl) of;
+    of = subst (IsOf p.table) (sym cl) of;
     share = sh;
     learns = record { right = ap (λ h. (view h).right) cl; known = λ k e. ap (λ h. knows (view h) k) cl ∙ e };
     won = λ k h. subst (λ d. Contains (view d).won k) (sym cl) h;
@@ -237,8 +244,9 @@ module _ (p : Pause) where
     carried = more;
     stack = λ k h. subst (λ s. Contains s.items k) (sym st) h;
     fresh = λ f e h. inl (subst (λ d. Contains (view d).won (granule f.base)) cl h);
+    own = λ o k h. subst (λ d. Contains (view d).won (granule k)) (sym cl) (o k (subst (λ s. Contains s.items k) st h));
     left =
-        let u : unknown (length (start_of p.table.now)) (view c.claimer) ≡ unknown (length (start_of p.table.now)) (view b.claimer) = ap (λ h. unknown (length (start_of p.table.now)) (view h)) cl in
+        let u : unknown (length (start_of p.table)) (view c.claimer) ≡ unknown (length (start_of p.table)) (view b.claimer) = ap (λ h. unknown (length (start_of p.table)) (view h)) cl in
         let s : length c.stack.items ≡ length b.stack.items = ap (λ s. length s.items) st in
         omega (arith, u, s);
   }
@@ -250,31 +258,31 @@ module _ (p : Pause) where
   }
 
   -- words of an object that lie in a row on one page, which was carried then or not
-  pub reads_run : (f : Found) (first n page : ℕ) (a b c : Helper) → first + n ≤ f.len → ((i : ℕ) → first ≤ i → i < first + n → page_of (word_address f i) ≡ page) → VisitsAll p (words_from p.memory.now f first n) a b
-      → c.claimer ≡ b.claimer → c.stack ≡ b.stack → c.dirty ≡ b.dirty → c.share ≡ b.share → CarriesPage (found p) (bytes_of p.marker.now) (words_from p.memory.now f first n) page b.carried c.carried → ReadsWords p f first n a c
+  pub reads_run : (f : Found) (first n page : ℕ) (a b c : Helper) → first + n ≤ f.len → ((i : ℕ) → first ≤ i → i < first + n → page_of (word_address f i) ≡ page) → VisitsAll p (words_from p.memory f first n) a b
+      → c.claimer ≡ b.claimer → c.stack ≡ b.stack → c.dirty ≡ b.dirty → c.share ≡ b.share → CarriesPage (found p) (bytes_of p.marker) (words_from p.memory f first n) page b.carried c.carried → ReadsWords p f first n a c
   reads_run f first n page a b c fits one_page v cl st di sh carries = record {
     extends = extends_trans a b c v.extends (extends_carried b c v.extends.of cl st di sh carries.len carries.stays);
     read = λ i le lt.
-        let among = contains_word p.memory.now f first n i le lt in
+        let among = contains_word p.memory f first n i le lt in
         record {
           known = subst (λ h. IsTargetKnown p (view h) (word_in p f i)) (sym cl) (v.targets (word_in p f i) among);
           settled = λ s. ⊎_elim
               (λ h. subst (Has c.carried) (sym (one_page i le lt)) h)
-              (λ other. absurd (not_stray (found p) (bytes_of p.marker.now) (word_in p f i) s other))
+              (λ other. absurd (not_stray (found p) (bytes_of p.marker) (word_in p f i) s other))
               (carries.all (word_in p f i) among);
         };
     strays = λ q h. ⊎_elim
         (λ o. inl (subst (λ r. Has r q) v.carried o))
-        (λ (s : (q ≡ page) × ((w : ℕ) × Contains (words_from p.memory.now f first n) w × IsStray (found p) (bytes_of p.marker.now) w)).
-        let y = word_of p.memory.now f first n s.1.0 s.1.1 in let l = y.2 in
-        inr (record { index = y.0; inside = omega (arith, l, fits); on = one_page y.0 y.1 y.2 ∙ sym s.0; stray = subst (IsStray (found p) (bytes_of p.marker.now)) y.3 s.1.2 }))
+        (λ (s : (q ≡ page) × ((w : ℕ) × Contains (words_from p.memory f first n) w × IsStray (found p) (bytes_of p.marker) w)).
+        let y = word_of p.memory f first n s.1.0 s.1.1 in let l = y.2 in
+        inr (record { index = y.0; inside = omega (arith, l, fits); on = one_page y.0 y.1 y.2 ∙ sym s.0; stray = subst (IsStray (found p) (bytes_of p.marker)) y.3 s.1.2 }))
         (carries.only q h);
-    only = only_carried (IsWordOf p f) a b c cl st (only_more (λ w. Contains (words_from p.memory.now f first n) w) (IsWordOf p f) a b
-        (λ w h. let y = word_of p.memory.now f first n w h in let l = y.2 in (y.0, omega arith, y.3)) v.only);
+    only = only_carried (IsWordOf p f) a b c cl st (only_more (λ w. Contains (words_from p.memory f first n) w) (IsWordOf p f) a b
+        (λ w h. let y = word_of p.memory f first n w h in let l = y.2 in (y.0, omega arith, y.3)) v.only);
   }
 
   -- no word was read
-  pub reads_none : (f : Found) (first : ℕ) (a : Helper) → IsOf p.table.now a.claimer → ReadsWords p f first 0 a a
+  pub reads_none : (f : Found) (first : ℕ) (a : Helper) → IsOf p.table a.claimer → ReadsWords p f first 0 a a
   reads_none f first a of = record {
     extends = extends_refl a of;
     read = λ i le lt. absurd (omega (arith, le, lt));

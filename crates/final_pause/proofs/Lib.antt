@@ -6,3 +6,4 @@ pub mod Serving
 pub mod Gathering
 pub mod Marked
 pub mod Numbering
+pub mod Ranks

@@ -19,7 +19,7 @@ use Rattle.marker.specs.Marking.{word_address}
 use Rattle.marker.proofs.Closures.{same_object}
 use Rattle.marker.proofs.Rereading.{cut_begins, cut_kind, found_cut}
 use Rattle.marker.proofs.Rescanning.{reads_own}
-use Rattle.final_pause.specs.declared.share.Pause.{Pause}
+use Rattle.final_pause.specs.Pauses.{PauseView}
 use Rattle.final_pause.specs.Helping.{found, IsReadyPause, IsWordRead}
 use Rattle.final_pause.specs.Serving.{AreObjectsRead, IsPageRead}
 use Rattle.final_pause.proofs.Growing.{word_more}
@@ -33,25 +33,25 @@ bits_of_word row words j is fits k e =
     ∙ ap (λ i. bit_at (get_or words i 0) (k % 64) == 1) e
 
 -- how many marks there are
-pub marks_len : (p : Pause) → IsReadyPause p → length p.marker.now.marks ≡ PAGE_GRANULES * length p.map.now
+pub marks_len : (p : PauseView) → IsReadyPause p → length p.marker.marks ≡ PAGE_GRANULES * length p.map
 marks_len p ready = ap length (sym ready.start) ∙ ready.granules
 
 -- the bits of a word of the marks from before
-pub bits_of_marks : (p : Pause) → IsReadyPause p → (row : List Bool) (words : List ℕ) (page j : ℕ) → row ≡ p.marker.now.marks → bits words (length row) ≡ row → page < length p.map.now
-    → 64 * (j + 1) ≤ PAGE_GRANULES * (page + 1) → (k : ℕ) → k / 64 ≡ j → get_or p.marker.now.marks k false ≡ (bit_at (get_or words j 0) (k % 64) == 1)
+pub bits_of_marks : (p : PauseView) → IsReadyPause p → (row : List Bool) (words : List ℕ) (page j : ℕ) → row ≡ p.marker.marks → bits words (length row) ≡ row → page < length p.map
+    → 64 * (j + 1) ≤ PAGE_GRANULES * (page + 1) → (k : ℕ) → k / 64 ≡ j → get_or p.marker.marks k false ≡ (bit_at (get_or words j 0) (k % 64) == 1)
 bits_of_marks p ready row words page j same is inside on k e =
     let size = marks_len p ready in
-    let len : length row ≡ length p.marker.now.marks = ap length same in
+    let len : length row ≡ length p.marker.marks = ap length same in
     ap (λ m. get_or m k false) (sym same) ∙ bits_of_word row words j is (omega arith) k e
 
 -- what a granule of a page that is cut finds is told by the page's block
-pub granule_finds : (p : Pause) (page g : ℕ) (b : Cells) → state_at p.map.now page ≡ cut b → PAGE_GRANULES * page ≤ g → g < PAGE_GRANULES * (page + 1)
+pub granule_finds : (p : PauseView) (page g : ℕ) (b : Cells) → state_at p.map page ≡ cut b → PAGE_GRANULES * page ≤ g → g < PAGE_GRANULES * (page + 1)
     → found p (FIRST_ADDRESS + GRANULE_BYTES * g) ≡ found_in_block page b (FIRST_ADDRESS + GRANULE_BYTES * g)
-granule_finds p page g b is from below = found_cut p.map.now page (FIRST_ADDRESS + GRANULE_BYTES * g) b is (omega arith) (omega arith)
+granule_finds p page g b is from below = found_cut p.map page (FIRST_ADDRESS + GRANULE_BYTES * g) b is (omega arith) (omega arith)
 
-module _ (p : Pause) (map : IsMap (length p.map.now) (found p)) where
+module _ (p : PauseView) (map : IsMap (length p.map) (found p)) where
   -- none of these granules was marked
-  pub objects_none : (v : ClaimerView) (c : List Bool) (low past : ℕ) → ((k : ℕ) → low ≤ k → k < past → Has p.marker.now.marks k → ⊥) → AreObjectsRead p v c low past
+  pub objects_none : (v : ClaimerView) (c : List Bool) (low past : ℕ) → ((k : ℕ) → low ≤ k → k < past → Has p.marker.marks k → ⊥) → AreObjectsRead p v c low past
   objects_none v c low past none f o n m from below i lt = absurd (none (granule f.base) from below m)
 
   -- no object begins at this granule
@@ -64,7 +64,7 @@ module _ (p : Pause) (map : IsMap (length p.map.now) (found p)) where
   -- the words of the object that begins at this granule were read
   pub objects_one : (v : ClaimerView) (c : List Bool) (g : ℕ) (f : Found) → found p f.base ≡ Some f → granule f.base ≡ g → ((i : ℕ) → i < f.len → IsWordRead p v c f i) → AreObjectsRead p v c g (g + 1)
   objects_one v c g f is at read h o n m from below i lt =
-      let s : f ≡ h = same_object (length p.map.now) (found p) map f h is o (omega arith) in
+      let s : f ≡ h = same_object (length p.map) (found p) map f h is o (omega arith) in
       subst (λ (y : Found). i < y.len → IsWordRead p v c y i) s (read i) lt
 
   -- granules up to one, and then from it on
@@ -77,20 +77,20 @@ module _ (p : Pause) (map : IsMap (length p.map.now) (found p)) where
 
   -- granules that had no mark are passed, and then the object at a marked one was read
   pub objects_next : (v w : ClaimerView) (c d : List Bool) → ((k : ℕ) → knows v k ≡ true → knows w k ≡ true) → ((q : ℕ) → Has c q → Has d q) → (low mid at past : ℕ) → past ≡ at + 1
-      → ((k : ℕ) → mid ≤ k → k < at → Has p.marker.now.marks k → ⊥) → AreObjectsRead p v c low mid → AreObjectsRead p w d at (at + 1) → AreObjectsRead p w d low past
+      → ((k : ℕ) → mid ≤ k → k < at → Has p.marker.marks k → ⊥) → AreObjectsRead p v c low mid → AreObjectsRead p w d at (at + 1) → AreObjectsRead p w d low past
   objects_next v w c d more carried low mid at past end none x y =
       let before = objects_append w d low mid at (objects_more v w c d more carried low mid x) (objects_none w d mid at none) in
       subst (AreObjectsRead p w d low) (sym end) (objects_append w d low at (at + 1) before y)
 
-  module _ (page : ℕ) (b : Cells) (is : state_at p.map.now page ≡ cut b) (v : ClaimerView) (c : List Bool) where
+  module _ (page : ℕ) (b : Cells) (is : state_at p.map page ≡ cut b) (v : ClaimerView) (c : List Bool) where
     -- all objects that begin on a page that is cut, and so all of which a word stands there
     pub objects_page : AreObjectsRead p v c (PAGE_GRANULES * page) (PAGE_GRANULES * (page + 1)) → IsPageRead p v c page
     objects_page read f o n m i lt from below =
-        let base = cut_begins p.map.now page (word_address f i) b f is from below (reads_own (length p.map.now) (found p) map f i o lt) in
+        let base = cut_begins p.map page (word_address f i) b f is from below (reads_own (length p.map) (found p) map f i o lt) in
         read f o n m (omega arith) (omega arith) i lt
 
     -- the objects of a block of another kind
     pub page_free : b.kind ≡ PointerFree → IsPageRead p v c page
     page_free kind f o n m i lt from below =
-        let k = cut_kind p.map.now page (word_address f i) b f is from below (reads_own (length p.map.now) (found p) map f i o lt) in
+        let k = cut_kind p.map page (word_address f i) b f is from below (reads_own (length p.map) (found p) map f i o lt) in
         let z : PointerFree ≡ Normal = sym kind ∙ sym k ∙ n in absurd (cc z)

@@ -9,7 +9,7 @@ use Rattle.words.specs.declared.limits.TheConstants.{WORD_BYTES}
 use Rattle.words.specs.Bits.{Has}
 use Rattle.words.specs.Layout.{granule, page_of, page_start}
 use Rattle.mark_bits.specs.declared.claimer_view.ClaimerView.{ClaimerView}
-use Rattle.mark_bits.specs.Tables.{view}
+use Rattle.mark_bits.specs.Tables.{view, IsOf}
 use Rattle.mark_bits.specs.Claims.{doubled, knows, HasPart}
 use Rattle.block_map.specs.declared.found.Found.{Found}
 use Rattle.block_map.specs.Objects.{IsMap}
@@ -22,14 +22,14 @@ use Rattle.marker.proofs.Closures.{at_base, is_object}
 use Rattle.marker.proofs.Rescanning.{next_is, reads_own}
 use Rattle.final_pause.specs.declared.deal.Share.{Share}
 use Rattle.final_pause.specs.declared.helper.Helper.{Helper}
-use Rattle.final_pause.specs.declared.share.Pause.{Pause}
+use Rattle.final_pause.specs.Pauses.{PauseView}
 use Rattle.final_pause.specs.Dealing.{IsDealt}
-use Rattle.final_pause.specs.Helping.{found, won_of, IsReadyPause, IsHelperOf, HelperGrows, IsWordRead, HasStrayOn, IsPointedInto, ClaimsOnly, IsWordOf, Visits, ReadsWords}
+use Rattle.final_pause.specs.Helping.{found, won_of, IsReadyPause, IsHelperOf, HelperGrows, IsWordRead, IsAwaitedBy, QueuesObject, AreWon, HasStrayOn, IsPointedInto, ClaimsOnly, IsWordOf, Visits, ReadsWords}
 use Rattle.final_pause.specs.Serving.{IsReachable, IsReachedAt, IsQueuedAt, IsServing, GoesOnServing, IsEntryRead, AreRootsRead, AreEntriesRead, AreWordsRead, ArePagesRead, IsShareRead, IsHired}
 use Rattle.final_pause.proofs.Knowing.{contains_one, none_in}
 use Rattle.final_pause.proofs.Growing.{target_more, word_more, awaited_more, page_more}
 
-module _ (p : Pause) where
+module _ (p : PauseView) where
   -- what the words of a reached Normal object point into is reached
   pub reached_word : (f : Found) → IsReachable p f → f.kind ≡ Normal → (w : ℕ) → IsWordOf p f w → (g : Found) → found p w ≡ Some g → IsReachable p g
   reached_word f r n w (i, lt, is) g e = word {p = f} i r n lt (subst (λ (v : ℕ). found p v ≡ Some g) is e)
@@ -40,7 +40,7 @@ module _ (p : Pause) where
     of = x.of;
     dirty = x.dirty_len ∙ f.dirty;
     carried = x.carried_len ∙ f.carried;
-    dealt = subst (IsDealt p.marker.now p.helpers) (sym x.share) f.dealt;
+    dealt = subst (IsDealt p.marker p.helpers) (sym x.share) f.dealt;
   }
 
   -- a word that a helper has read stays read as it goes on
@@ -54,25 +54,25 @@ module _ (p : Pause) where
       (subst (λ (s : Share). doubled (view a.claimer).right.0 (s.place + 1) ≡ doubled 1 (view a.claimer).right.1) (sym share) part)
 
   -- a stray word of a reached Normal object makes its page one
-  pub stray_on : (f : Found) → found p f.base ≡ Some f → f.kind ≡ Normal → IsReachable p f → (q : ℕ) → HasStrayOn p f q → IsStrayPage (found p) p.memory.now p.roots.now p.marker.now q
+  pub stray_on : (f : Found) → found p f.base ≡ Some f → f.kind ≡ Normal → IsReachable p f → (q : ℕ) → HasStrayOn p f q → IsStrayPage (found p) p.memory p.roots p.marker q
   stray_on f is normal reached q s = record { object = f; is = is; normal = normal; reached = reached; index = s.index; inside = s.inside; on = s.on; stray = s.stray }
 
-  module _ (map : IsMap (length p.map.now) (found p)) (P : ℕ → Type 0) (reach : (w : ℕ) → P w → (g : Found) → found p w ≡ Some g → IsReachable p g) (a b : Helper) (only : ClaimsOnly p P a b) where
+  module _ (map : IsMap (length p.map) (found p)) (P : ℕ → Type 0) (reach : (w : ℕ) → P w → (g : Found) → found p w ≡ Some g → IsReachable p g) (a b : Helper) (only : ClaimsOnly p P a b) where
     pub queued_more : ((k : ℕ) → Contains a.stack.items k → IsQueuedAt p k) → (k : ℕ) → Contains b.stack.items k → IsQueuedAt p k
     queued_more q k c = ⊎_elim (λ h. q k h)
         (λ (r : (f : Found) × IsPointedInto p P f × (f.base ≡ k) × (f.kind ≡ Normal)).
         let t = r.1 in
-        record { object = r.0; is = at_base (length p.map.now) (found p) map t.word r.0 t.points; base_is = r.2; normal = r.3; reached = reach t.word t.one r.0 t.points })
+        record { object = r.0; is = at_base (length p.map) (found p) map t.word r.0 t.points; base_is = r.2; normal = r.3; reached = reach t.word t.one r.0 t.points })
         (only.entries k c)
 
     pub within_more : ((k : ℕ) → Contains (won_of a) k → IsReachedAt p k) → (k : ℕ) → Contains (won_of b) k → IsReachedAt p k
     within_more q k c = ⊎_elim (λ h. q k h)
         (λ (r : (f : Found) × IsPointedInto p P f × (granule f.base ≡ k)).
         let t = r.1 in
-        record { object = r.0; is = at_base (length p.map.now) (found p) map t.word r.0 t.points; first = r.2; reached = reach t.word t.one r.0 t.points })
+        record { object = r.0; is = at_base (length p.map) (found p) map t.word r.0 t.points; first = r.2; reached = reach t.word t.one r.0 t.points })
         (only.won k c)
 
-    pub serves_more : HelperGrows p a b → ((q : ℕ) → Has b.carried q → Has a.carried q ⊎ IsStrayPage (found p) p.memory.now p.roots.now p.marker.now q) → IsServing p a → IsServing p b
+    pub serves_more : HelperGrows p a b → ((q : ℕ) → Has b.carried q → Has a.carried q ⊎ IsStrayPage (found p) p.memory p.roots p.marker q) → IsServing p a → IsServing p b
     serves_more x strays s = record {
       fits = fits_more a b x s.fits;
       part = part_on a b x.share x.learns.right s.part;
@@ -83,13 +83,14 @@ module _ (p : Pause) where
       strays = λ q h. ⊎_elim (λ o. s.strays q o) (λ w. w) (strays q h);
       queued = queued_more s.queued;
       within = within_more s.within;
+      own = x.own s.own;
     }
 
   pub serves_refl : (h : Helper) → IsServing p h → GoesOnServing p h h
   serves_refl h s = record { serving = s; share = refl; learns = record { right = refl; known = λ k e. e }; carried = λ q h. h }
 
   -- a helper that is hired owes nothing yet
-  pub serves_hired : IsReadyPause p → (h : Helper) → IsHired p.table.now p.marker.now p.helpers h → IsServing p h
+  pub serves_hired : IsReadyPause p → (h : Helper) → IsHired p.table p.marker p.helpers h → IsServing p h
   serves_hired ready h x = record {
     fits = record { ready = ready; of = x.of; dirty = x.dirty.size ∙ ready.pages; carried = x.carried.size ∙ ready.pages; dealt = x.dealt };
     part = x.part;
@@ -98,6 +99,7 @@ module _ (p : Pause) where
     strays = λ q d. absurd (true≢false (sym d ∙ x.carried.clear q));
     queued = λ b c. absurd (none_in h.stack.items b x.no_entry c);
     within = λ k c. absurd (none_in (won_of h) k x.none_won c);
+    own = λ b c. absurd (none_in h.stack.items b x.no_entry c);
   }
 
   pub serves_trans : (a b c : Helper) → GoesOnServing p a b → GoesOnServing p b c → GoesOnServing p a c
@@ -109,7 +111,7 @@ module _ (p : Pause) where
   }
 
   -- a word is visited of which what it points into is reached
-  pub serves_visit : IsMap (length p.map.now) (found p) → (w : ℕ) (a b : Helper) → ((g : Found) → found p w ≡ Some g → IsReachable p g) → Visits p w a b → IsServing p a → GoesOnServing p a b
+  pub serves_visit : IsMap (length p.map) (found p) → (w : ℕ) (a b : Helper) → ((g : Found) → found p w ≡ Some g → IsReachable p g) → Visits p w a b → IsServing p a → GoesOnServing p a b
   serves_visit map w a b reach v s = record {
     serving = serves_more map (λ n. n ≡ w) (λ n is f e. reach f (subst (λ (m : ℕ). found p m ≡ Some f) is e)) a b v.only v.extends (λ q h. inl (subst (λ r. Has r q) v.carried h)) s;
     share = v.extends.share;
@@ -118,24 +120,24 @@ module _ (p : Pause) where
   }
 
   -- words of a reached Normal object were read
-  pub serves_words : IsMap (length p.map.now) (found p) → (f : Found) (first n : ℕ) (a b : Helper) → IsReachable p f → f.kind ≡ Normal → ReadsWords p f first n a b → IsServing p a → GoesOnServing p a b
+  pub serves_words : IsMap (length p.map) (found p) → (f : Found) (first n : ℕ) (a b : Helper) → IsReachable p f → f.kind ≡ Normal → ReadsWords p f first n a b → IsServing p a → GoesOnServing p a b
   serves_words map f first n a b reached normal r s = record {
     serving = serves_more map (IsWordOf p f) (reached_word f reached normal) a b r.only r.extends
-        (λ q h. ⊎_elim (λ o. inl o) (λ w. inr (stray_on f (is_object (length p.map.now) (found p) p.memory.now p.roots.now (IsMarked p.marker.now) map reached) normal reached q w)) (r.strays q h)) s;
+        (λ q h. ⊎_elim (λ o. inl o) (λ w. inr (stray_on f (is_object (length p.map) (found p) p.memory p.roots (IsMarked p.marker) map reached) normal reached q w)) (r.strays q h)) s;
     share = r.extends.share;
     learns = r.extends.learns;
     carried = r.extends.carried;
   }
 
-  -- an entry is taken off the stack, and its object is read
-  module _ (map : IsMap (length p.map.now) (found p)) (a m b : Helper) (base : ℕ) (f : Found)
+  -- an entry is taken off the stack
+  module _ (map : IsMap (length p.map) (found p)) (a m : Helper) (base : ℕ) (f : Found)
       (claimer : m.claimer ≡ a.claimer) (dirty : m.dirty ≡ a.dirty) (carried : m.carried ≡ a.carried) (share : m.share ≡ a.share) (stack : a.stack.items ≡ m.stack.items ++ base ∷ [])
-      (is : found p base ≡ Some f) (s : IsServing p a) (r : ReadsWords p f 0 f.len m b) where
-    x : HelperGrows p m b
-    x = r.extends
+      (is : found p base ≡ Some f) (s : IsServing p a) where
+    base_in : Contains a.stack.items base
+    base_in = subst (λ l. Contains l base) (sym stack) (Contains-append_right m.stack.items (base ∷ []) base (0, omega arith, refl))
 
     here : IsQueuedAt p base
-    here = s.queued base (subst (λ l. Contains l base) (sym stack) (Contains-append_right m.stack.items (base ∷ []) base (0, omega arith, refl)))
+    here = s.queued base base_in
 
     same : here.object ≡ f
     same = same_Some here.object f (sym here.is ∙ (ap (found p) here.base_is ∙ is))
@@ -146,58 +148,131 @@ module _ (p : Pause) where
     normal : f.kind ≡ Normal
     normal = ap (λ (g : Found). g.kind) (sym same) ∙ here.normal
 
-    on_stack : (k : ℕ) → Contains a.stack.items k → Contains b.stack.items k ⊎ (base ≡ k)
-    on_stack k c = ⊎_elim (λ h. inl (x.stack k h)) (λ h. inr (contains_one base k h)) (Contains-append_cases m.stack.items (base ∷ []) k (subst (λ l. Contains l k) stack c))
+    f_base : f.base ≡ base
+    f_base = ap (λ (g : Found). g.base) (sym same) ∙ here.base_is
 
-    known : (k : ℕ) → knows (view a.claimer) k ≡ true → knows (view b.claimer) k ≡ true
-    known k h = x.learns.known k (ap (λ c. knows (view c) k) claimer ∙ h)
+    off_stack : (k : ℕ) → Contains a.stack.items k → Contains m.stack.items k ⊎ (base ≡ k)
+    off_stack k c = ⊎_elim (λ h. inl h) (λ h. inr (contains_one base k h)) (Contains-append_cases m.stack.items (base ∷ []) k (subst (λ l. Contains l k) stack c))
 
-    carried_on : (q : ℕ) → Has a.carried q → Has b.carried q
-    carried_on q h = x.carried q (subst (λ c. Has c q) (sym carried) h)
+    was_on : (k : ℕ) → Contains m.stack.items k → Contains a.stack.items k
+    was_on k c = subst (λ l. Contains l k) (sym stack) (Contains-append_left m.stack.items (base ∷ []) k c)
 
-    read_here : (g : Found) → found p g.base ≡ Some g → base ≡ g.base → (i : ℕ) → i < g.len → IsWordRead p (view b.claimer) b.carried g i
-    read_here g o e i lt =
-        let is_f : f ≡ g = same_Some f g (sym is ∙ (ap (found p) e ∙ o)) in
-        let lt' : i < f.len = subst (λ (y : Found). i < y.len) (sym is_f) lt in
-        subst (λ (y : Found). IsWordRead p (view b.claimer) b.carried y i) is_f (r.read i (omega arith) (omega (arith, lt')))
+    -- the object at the base is this one
+    at_this : (g : Found) → found p g.base ≡ Some g → base ≡ g.base → f ≡ g
+    at_this g o e = same_Some f g (sym is ∙ (ap (found p) e ∙ o))
 
     before : (k : ℕ) → Contains m.stack.items k → IsQueuedAt p k
-    before k c = s.queued k (subst (λ l. Contains l k) (sym stack) (Contains-append_left m.stack.items (base ∷ []) k c))
+    before k c = s.queued k (was_on k c)
 
     won_before : (k : ℕ) → Contains (won_of m) k → Contains (won_of a) k
     won_before k c = subst (λ h. Contains (view h).won k) claimer c
 
-    won_after : (k : ℕ) → Contains (won_of a) k → Contains (won_of b) k
-    won_after k c = x.won k (subst (λ h. Contains (view h).won k) (sym claimer) c)
+    own_before : AreWon m
+    own_before k c = subst (λ h. Contains (view h).won (granule k)) (sym claimer) (s.own k (was_on k c))
 
-    serving_pop : IsServing p b
-    serving_pop = record {
-      fits = record { ready = s.fits.ready; of = x.of; dirty = x.dirty_len ∙ (ap length dirty ∙ s.fits.dirty); carried = x.carried_len ∙ (ap length carried ∙ s.fits.carried); dealt = subst (IsDealt p.marker.now p.helpers) (sym (x.share ∙ share)) s.fits.dealt };
-      part = part_on a b (x.share ∙ share) (x.learns.right ∙ ap (λ c. (view c).right) claimer) s.part;
-      won = λ g o n c i lt. ⊎_elim
-          (λ h. ⊎_elim
-          (λ k. inl (word_more p (view a.claimer) (view b.claimer) a.carried b.carried known carried_on g i k))
-          (λ w. ⊎_elim
-          (λ d. inr (inl (x.dirty _ (subst (λ d. Has d (page_of (word_address g i))) (sym dirty) d))))
-          (λ q. ⊎_elim (λ l. inr (inr l)) (λ (e : base ≡ g.base). inl (read_here g o e i lt)) (on_stack g.base q)) w)
-          (s.won g o n (won_before (granule g.base) h) i lt))
-          (λ h. inr (h n i lt)) (x.fresh g o c);
-      dirtied = λ q h. ⊎_elim (λ o. page_more p a b won_after q (s.dirtied q (subst (λ d. Has d q) dirty o))) (λ w. w) (x.dirtied q h);
-      strays = λ q h. ⊎_elim
-          (λ o. s.strays q (subst (λ c. Has c q) carried o))
-          (λ w. stray_on f (is_object (length p.map.now) (found p) p.memory.now p.roots.now (IsMarked p.marker.now) map reached) normal reached q w)
-          (r.strays q h);
-      queued = queued_more map (IsWordOf p f) (reached_word f reached normal) m b r.only before;
-      within = within_more map (IsWordOf p f) (reached_word f reached normal) m b r.only (λ k c. s.within k (won_before k c));
-    }
+    -- and its object is read
+    module _ (b : Helper) (r : ReadsWords p f 0 f.len m b) where
+      x : HelperGrows p m b
+      x = r.extends
 
-    pub serves_pop : GoesOnServing p a b
-    serves_pop = record {
-      serving = serving_pop;
-      share = x.share ∙ share;
-      learns = record { right = x.learns.right ∙ ap (λ c. (view c).right) claimer; known = known };
-      carried = carried_on;
-    }
+      on_stack : (k : ℕ) → Contains a.stack.items k → Contains b.stack.items k ⊎ (base ≡ k)
+      on_stack k c = ⊎_elim (λ h. inl (x.stack k h)) (λ e. inr e) (off_stack k c)
+
+      known : (k : ℕ) → knows (view a.claimer) k ≡ true → knows (view b.claimer) k ≡ true
+      known k h = x.learns.known k (ap (λ c. knows (view c) k) claimer ∙ h)
+
+      carried_on : (q : ℕ) → Has a.carried q → Has b.carried q
+      carried_on q h = x.carried q (subst (λ c. Has c q) (sym carried) h)
+
+      read_here : (g : Found) → found p g.base ≡ Some g → base ≡ g.base → (i : ℕ) → i < g.len → IsWordRead p (view b.claimer) b.carried g i
+      read_here g o e i lt =
+          let is_f = at_this g o e in
+          let lt' : i < f.len = subst (λ (y : Found). i < y.len) (sym is_f) lt in
+          subst (λ (y : Found). IsWordRead p (view b.claimer) b.carried y i) is_f (r.read i (omega arith) (omega (arith, lt')))
+
+      won_after : (k : ℕ) → Contains (won_of a) k → Contains (won_of b) k
+      won_after k c = x.won k (subst (λ h. Contains (view h).won k) (sym claimer) c)
+
+      serving_pop : IsServing p b
+      serving_pop = record {
+        fits = record { ready = s.fits.ready; of = x.of; dirty = x.dirty_len ∙ (ap length dirty ∙ s.fits.dirty); carried = x.carried_len ∙ (ap length carried ∙ s.fits.carried); dealt = subst (IsDealt p.marker p.helpers) (sym (x.share ∙ share)) s.fits.dealt };
+        part = part_on a b (x.share ∙ share) (x.learns.right ∙ ap (λ c. (view c).right) claimer) s.part;
+        won = λ g o n c i lt. ⊎_elim
+            (λ h. ⊎_elim
+            (λ k. inl (word_more p (view a.claimer) (view b.claimer) a.carried b.carried known carried_on g i k))
+            (λ w. ⊎_elim
+            (λ d. inr (inl (x.dirty _ (subst (λ d. Has d (page_of (word_address g i))) (sym dirty) d))))
+            (λ q. ⊎_elim (λ l. inr (inr l)) (λ (e : base ≡ g.base). inl (read_here g o e i lt)) (on_stack g.base q)) w)
+            (s.won g o n (won_before (granule g.base) h) i lt))
+            (λ h. inr (h n i lt)) (x.fresh g o c);
+        dirtied = λ q h. ⊎_elim (λ o. page_more p a b won_after q (s.dirtied q (subst (λ d. Has d q) dirty o))) (λ w. w) (x.dirtied q h);
+        strays = λ q h. ⊎_elim
+            (λ o. s.strays q (subst (λ c. Has c q) carried o))
+            (λ w. stray_on f (is_object (length p.map) (found p) p.memory p.roots (IsMarked p.marker) map reached) normal reached q w)
+            (r.strays q h);
+        queued = queued_more map (IsWordOf p f) (reached_word f reached normal) m b r.only before;
+        within = within_more map (IsWordOf p f) (reached_word f reached normal) m b r.only (λ k c. s.within k (won_before k c));
+        own = x.own own_before;
+      }
+
+      pub serves_pop : GoesOnServing p a b
+      serves_pop = record {
+        serving = serving_pop;
+        share = x.share ∙ share;
+        learns = record { right = x.learns.right ∙ ap (λ c. (view c).right) claimer; known = known };
+        carried = carried_on;
+      }
+
+    -- or its object is left to its pages
+    module _ (b : Helper) (y : QueuesObject f m b) (rest : b.stack ≡ m.stack) where
+      cl : b.claimer ≡ a.claimer
+      cl = y.claimer ∙ claimer
+
+      ca : b.carried ≡ a.carried
+      ca = y.carried ∙ carried
+
+      won_still : (k : ℕ) → Contains (won_of b) k → Contains (won_of a) k
+      won_still k c = subst (λ h. Contains (view h).won k) cl c
+
+      won_too : (k : ℕ) → Contains (won_of a) k → Contains (won_of b) k
+      won_too k c = subst (λ h. Contains (view h).won k) (sym cl) c
+
+      back : (k : ℕ) → Contains b.stack.items k → Contains m.stack.items k
+      back k c = subst (λ l. Contains l.items k) rest c
+
+      awaits : (g : Found) → found p g.base ≡ Some g → g.kind ≡ Normal → (i : ℕ) → i < g.len → IsAwaitedBy a g i → IsAwaitedBy b g i
+      awaits g o n i lt w = ⊎_elim
+          (λ d. inl (y.dirty _ (subst (λ d. Has d (page_of (word_address g i))) (sym dirty) d)))
+          (λ q. ⊎_elim (λ l. inr (y.stack _ l))
+          (λ (e : base ≡ g.base). subst (λ (z : Found). z.kind ≡ Normal → (j : ℕ) → j < z.len → IsAwaitedBy b z j) (at_this g o e) y.awaited n i lt)
+          (off_stack g.base q))
+          w
+
+      word_still : (g : Found) (i : ℕ) → IsWordRead p (view a.claimer) a.carried g i → IsWordRead p (view b.claimer) b.carried g i
+      word_still g i k = word_more p (view a.claimer) (view b.claimer) a.carried b.carried (λ j h. ap (λ c. knows (view c) j) cl ∙ h) (λ q h. subst (λ c. Has c q) (sym ca) h) g i k
+
+      serving_left : IsServing p b
+      serving_left = record {
+        fits = record { ready = s.fits.ready; of = subst (IsOf p.table) (sym cl) s.fits.of; dirty = y.dirty_len ∙ (ap length dirty ∙ s.fits.dirty); carried = ap length ca ∙ s.fits.carried; dealt = subst (IsDealt p.marker p.helpers) (sym (y.share ∙ share)) s.fits.dealt };
+        part = part_on a b (y.share ∙ share) (ap (λ c. (view c).right) cl) s.part;
+        won = λ g o n c i lt. ⊎_elim (λ k. inl (word_still g i k)) (λ w. inr (awaits g o n i lt w)) (s.won g o n (won_still _ c) i lt);
+        dirtied = λ q h. ⊎_elim
+            (λ d. page_more p a b won_too q (s.dirtied q (subst (λ d. Has d q) dirty d)))
+            (λ c. (f, ap (found p) f_base ∙ is, won_too _ (subst (λ (n : ℕ). Contains (won_of a) (granule n)) (sym f_base) (s.own base base_in)), c))
+            (y.covered q h);
+        strays = λ q h. s.strays q (subst (λ c. Has c q) ca h);
+        queued = λ k c. before k (back k c);
+        within = λ k c. s.within k (won_still k c);
+        own = λ k c. won_too _ (s.own k (was_on k (back k c)));
+      }
+
+      pub serves_left : GoesOnServing p a b
+      serves_left = record {
+        serving = serving_left;
+        share = y.share ∙ share;
+        learns = record { right = ap (λ c. (view c).right) cl; known = λ k e. ap (λ c. knows (view c) k) cl ∙ e };
+        carried = λ q h. subst (λ c. Has c q) (sym ca) h;
+      }
 
   -- the roots of a place stay read where more is known
   pub roots_more : (v w : ClaimerView) → ((k : ℕ) → knows v k ≡ true → knows w k ≡ true) → (place n : ℕ) → AreRootsRead p v place n → AreRootsRead p w place n
@@ -224,11 +299,11 @@ module _ (p : Pause) where
     }
 
   -- words of one object that were read are those of the next object between two addresses
-  pub part_read : IsMap (length p.map.now) (found p) → (v : ClaimerView) (c : List Bool) (low high stop : ℕ) (g : Found) → IsNextObject (found p) low high g → stop ≤ g.base + WORD_BYTES * g.len
-      → (g.kind ≡ Normal → IsMarked p.marker.now g.base → (i : ℕ) → i < g.len → low ≤ word_address g i → word_address g i < stop → IsWordRead p v c g i) → AreWordsRead p v c low stop
+  pub part_read : IsMap (length p.map) (found p) → (v : ClaimerView) (c : List Bool) (low high stop : ℕ) (g : Found) → IsNextObject (found p) low high g → stop ≤ g.base + WORD_BYTES * g.len
+      → (g.kind ≡ Normal → IsMarked p.marker g.base → (i : ℕ) → i < g.len → low ≤ word_address g i → word_address g i < stop → IsWordRead p v c g i) → AreWordsRead p v c low stop
   part_read map v c low high stop g next le read f o n m i lt from below =
-      let is : g ≡ f = next_is (length p.map.now) (found p) low high stop (word_address f i) g f map next le from below (reads_own (length p.map.now) (found p) map f i o lt) in
-      subst (λ (y : Found). y.kind ≡ Normal → IsMarked p.marker.now y.base → (j : ℕ) → j < y.len → low ≤ word_address y j → word_address y j < stop → IsWordRead p v c y j) is read n m i lt from below
+      let is : g ≡ f = next_is (length p.map) (found p) low high stop (word_address f i) g f map next le from below (reads_own (length p.map) (found p) map f i o lt) in
+      subst (λ (y : Found). y.kind ≡ Normal → IsMarked p.marker y.base → (j : ℕ) → j < y.len → low ≤ word_address y j → word_address y j < stop → IsWordRead p v c y j) is read n m i lt from below
 
   -- words up to an address, and then words from it on
   pub words_append : (v : ClaimerView) (c : List Bool) (low at high : ℕ) → AreWordsRead p v c low at → AreWordsRead p v c at high → AreWordsRead p v c low high
@@ -236,6 +311,6 @@ module _ (p : Pause) where
       ⊎_elim (λ before. a f o n m i lt from before) (λ after. b f o n m i lt after below) (cases_lt (word_address f i) at)
 
   -- no object is left
-  pub words_end : IsMap (length p.map.now) (found p) → (v : ClaimerView) (c : List Bool) (low high : ℕ) → IsNoObject (found p) low high → AreWordsRead p v c low high
+  pub words_end : IsMap (length p.map) (found p) → (v : ClaimerView) (c : List Bool) (low high : ℕ) → IsNoObject (found p) low high → AreWordsRead p v c low high
   words_end map v c low high none f o n m i lt from below =
-      let z : None ≡ Some f = sym (none.none (word_address f i) from below) ∙ reads_own (length p.map.now) (found p) map f i o lt in absurd (cc z)
+      let z : None ≡ Some f = sym (none.none (word_address f i) from below) ∙ reads_own (length p.map) (found p) map f i o lt in absurd (cc z)

@@ -12,7 +12,7 @@ use Rattle.marker.specs.Marking.{Covers, word_address}
 use Rattle.marker.specs.Growth.{IsStrayPage}
 use Rattle.final_pause.specs.declared.deal.Share.{Share}
 use Rattle.final_pause.specs.declared.helper.Helper.{Helper}
-use Rattle.final_pause.specs.declared.share.Pause.{Pause}
+use Rattle.final_pause.specs.Pauses.{PauseView}
 use Rattle.final_pause.specs.Dealing.{IsDealt}
 use Rattle.final_pause.specs.Helping.{IsWordRead, found}
 use Rattle.final_pause.specs.Serving.{IsReachedAt, IsShareRead}
@@ -22,22 +22,22 @@ abbrev pub AreNumbered : List Helper → Type 0
 AreNumbered crew = (i : ℕ) (d : Helper) → i < length crew → (slice_index_or crew i d).share.place ≡ i
 
 -- what was dealt to a place was read
-pub record IsPlaceRead (p : Pause) (v : ClaimerView) (carried : List Bool) (place : ℕ) : Type 0 where
+pub record IsPlaceRead (p : PauseView) (v : ClaimerView) (carried : List Bool) (place : ℕ) : Type 0 where
   pub share : Share
   pub here : share.place ≡ place
-  pub dealt : IsDealt p.marker.now p.helpers share
+  pub dealt : IsDealt p.marker p.helpers share
   pub read : IsShareRead p v carried share
 
 -- The helpers from `low` on are joined: what they know and won is the first claimer's, and their dirty and their carried pages
 -- are those of one row each.
-pub record HasGathered (p : Pause) (low : ℕ) (first : Claimer) (dirty carried : List Bool) : Type 0 where
-  pub of : IsOf p.table.now first
+pub record HasGathered (p : PauseView) (low : ℕ) (first : Claimer) (dirty carried : List Bool) : Type 0 where
+  pub of : IsOf p.table first
   pub part : HasPart (view first) low
-  pub size : length dirty ≡ length p.map.now
-  pub carried_size : length carried ≡ length p.map.now
+  pub size : length dirty ≡ length p.map
+  pub carried_size : length carried ≡ length p.map
   pub won : (f : Found) → found p f.base ≡ Some f → f.kind ≡ Normal → Contains (view first).won (granule f.base) → (i : ℕ) → i < f.len
       → IsWordRead p (view first) carried f i ⊎ Has dirty (page_of (word_address f i))
   pub dirtied : (q : ℕ) → Has dirty q → (f : Found) × (found p f.base ≡ Some f) × Contains (view first).won (granule f.base) × Covers f q
-  pub strays : (q : ℕ) → Has carried q → IsStrayPage (found p) p.memory.now p.roots.now p.marker.now q
+  pub strays : (q : ℕ) → Has carried q → IsStrayPage (found p) p.memory p.roots p.marker q
   pub within : (k : ℕ) → Contains (view first).won k → IsReachedAt p k
   pub shares : (s : ℕ) → low ≤ s → s < p.helpers → IsPlaceRead p (view first) carried s

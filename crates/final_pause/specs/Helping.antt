@@ -5,7 +5,7 @@ use Rattle.words.specs.declared.limits.TheConstants.{MOST_PAGES, PAGE_GRANULES, 
 use Rattle.words.specs.Bits.{Has}
 use Rattle.words.specs.Layout.{page_of, granule}
 use Rattle.mark_bits.specs.declared.claimer_view.ClaimerView.{ClaimerView}
-use Rattle.mark_bits.specs.Tables.{view, start_of, IsOf}
+use Rattle.mark_bits.specs.Tables.{view, start_of, granules_of, IsOf}
 use Rattle.mark_bits.specs.Claims.{knows, LearnsMore}
 use Rattle.pages.specs.Memory.{word_at}
 use Rattle.block_map.specs.declared.found.Found.{Found}
@@ -14,19 +14,19 @@ use Rattle.block_map.specs.FoundIn.{found_in}
 use Rattle.marker.specs.Marking.{Covers, bytes_of, word_address}
 use Rattle.marker.specs.Growth.{IsStray}
 use Rattle.final_pause.specs.declared.helper.Helper.{Helper}
-use Rattle.final_pause.specs.declared.share.Pause.{Pause}
+use Rattle.final_pause.specs.Pauses.{PauseView}
 use Rattle.final_pause.specs.Dealing.{IsDealt}
 
 -- the object that a word points into
-abbrev pub found : Pause → ℕ → Option Found
-found p = found_in p.map.now
+abbrev pub found : PauseView → ℕ → Option Found
+found p = found_in p.map
 
 -- the word i of an object
-abbrev pub word_in : Pause → Found → ℕ → ℕ
-word_in p f i = word_at p.memory.now (word_address f i)
+abbrev pub word_in : PauseView → Found → ℕ → ℕ
+word_in p f i = word_at p.memory (word_address f i)
 
 -- a word points into the object
-pub record IsObjectOf (p : Pause) (f : Found) : Type 0 where
+pub record IsObjectOf (p : PauseView) (f : Found) : Type 0 where
   pub word : ℕ
   pub points : found p word ≡ Some f
 
@@ -34,40 +34,41 @@ pub record IsObjectOf (p : Pause) (f : Found) : Type 0 where
 abbrev pub won_of : Helper → List ℕ
 won_of h = (view h.claimer).won
 
--- What is true of each pause while helpers are at work: the table began with the marker's marks, and marks, dirty pages and
--- memory are those of the map's pages.
-pub record IsReadyPause (p : Pause) : Type 0 where
-  pub start : start_of p.table.now ≡ p.marker.now.marks
-  pub granules : length (start_of p.table.now) ≡ PAGE_GRANULES * length p.map.now
-  pub pages : length p.marker.now.dirty ≡ length p.map.now
-  pub few : length p.map.now ≤ MOST_PAGES
-  pub memory : length p.memory.now ≡ PAGE_WORDS * length p.map.now
+-- What is true of each pause while helpers are at work: the table began with the marker's marks, it has the mark of each object, and
+-- marks, dirty pages and memory are those of the map's pages.
+pub record IsReadyPause (p : PauseView) : Type 0 where
+  pub start : start_of p.table ≡ p.marker.marks
+  pub granules : length (start_of p.table) ≡ PAGE_GRANULES * length p.map
+  pub pages : length p.marker.dirty ≡ length p.map
+  pub few : length p.map ≤ MOST_PAGES
+  pub memory : length p.memory ≡ PAGE_WORDS * length p.map
   pub some : 0 < p.helpers
-  pub map : IsMap (length p.map.now) (found p)
+  pub map : IsMap (length p.map) (found p)
+  pub room : (f : Found) → found p f.base ≡ Some f → granule f.base < granules_of p.table
 
 -- the helper is one of this pause
-pub record IsHelperOf (p : Pause) (h : Helper) : Type 0 where
+pub record IsHelperOf (p : PauseView) (h : Helper) : Type 0 where
   pub ready : IsReadyPause p
-  pub of : IsOf p.table.now h.claimer
-  pub dirty : length h.dirty ≡ length p.map.now
-  pub carried : length h.carried ≡ length p.map.now
-  pub dealt : IsDealt p.marker.now p.helpers h.share
+  pub of : IsOf p.table h.claimer
+  pub dirty : length h.dirty ≡ length p.map
+  pub carried : length h.carried ≡ length p.map
+  pub dealt : IsDealt p.marker p.helpers h.share
 
 -- the object that the word points into, if any, is known to be marked
-abbrev pub IsTargetKnown : Pause → ClaimerView → ℕ → Type 0
+abbrev pub IsTargetKnown : PauseView → ClaimerView → ℕ → Type 0
 IsTargetKnown p v w = (g : Found) → found p w ≡ Some g → knows v (granule g.base) ≡ true
 
 -- the word i of the object is stray
-abbrev pub IsStrayIn : Pause → Found → ℕ → Type 0
-IsStrayIn p f i = IsStray (found p) (bytes_of p.marker.now) (word_in p f i)
+abbrev pub IsStrayIn : PauseView → Found → ℕ → Type 0
+IsStrayIn p f i = IsStray (found p) (bytes_of p.marker) (word_in p f i)
 
 -- the word i of the object was read: what it points into is known to be marked, and if it is stray its page is carried
-pub record IsWordRead (p : Pause) (v : ClaimerView) (carried : List Bool) (f : Found) (i : ℕ) : Type 0 where
+pub record IsWordRead (p : PauseView) (v : ClaimerView) (carried : List Bool) (f : Found) (i : ℕ) : Type 0 where
   pub known : IsTargetKnown p v (word_in p f i)
   pub settled : IsStrayIn p f i → Has carried (page_of (word_address f i))
 
 -- a stray word of the object stands on the page
-pub record HasStrayOn (p : Pause) (f : Found) (q : ℕ) : Type 0 where
+pub record HasStrayOn (p : PauseView) (f : Found) (q : ℕ) : Type 0 where
   pub index : ℕ
   pub inside : index < f.len
   pub on : page_of (word_address f index) ≡ q
@@ -77,8 +78,12 @@ pub record HasStrayOn (p : Pause) (f : Found) (q : ℕ) : Type 0 where
 abbrev pub IsAwaitedBy : Helper → Found → ℕ → Type 0
 IsAwaitedBy h f i = Has h.dirty (page_of (word_address f i)) ⊎ Contains h.stack.items f.base
 
+-- the helper won the objects on its stack
+abbrev pub AreWon : Helper → Type 0
+AreWon h = (b : ℕ) → Contains h.stack.items b → Contains (won_of h) (granule b)
+
 -- the page is one of an object that the helper won
-abbrev pub IsPageOfWon : Pause → Helper → ℕ → Type 0
+abbrev pub IsPageOfWon : PauseView → Helper → ℕ → Type 0
 IsPageOfWon p h q = (f : Found) × (found p f.base ≡ Some f) × Contains (won_of h) (granule f.base) × Covers f q
 
 -- an object waits to be read, and nothing else has changed
@@ -104,13 +109,13 @@ unknown zero v = 0
 unknown (suc n) v = unseen (knows v n) + unknown n v
 
 -- what bounds the objects that the helper will read yet
-abbrev pub reads_left : Pause → Helper → ℕ
-reads_left p h = 2 * unknown (length (start_of p.table.now)) (view h.claimer) + length h.stack.items
+abbrev pub reads_left : PauseView → Helper → ℕ
+reads_left p h = 2 * unknown (length (start_of p.table)) (view h.claimer) + length h.stack.items
 
--- What the helper knows, its rows of pages and its entries only grow; each word of a newly won object is awaited, and only
--- pages of these have become dirty.
-pub record HelperGrows (p : Pause) (old new : Helper) : Type 0 where
-  pub of : IsOf p.table.now new.claimer
+-- What the helper knows, its rows of pages and its entries only grow; each word of a newly won object is awaited, only pages of
+-- these have become dirty, and it won what is on its stack, if it had won what was there.
+pub record HelperGrows (p : PauseView) (old new : Helper) : Type 0 where
+  pub of : IsOf p.table new.claimer
   pub share : new.share ≡ old.share
   pub learns : LearnsMore (view old.claimer) (view new.claimer)
   pub won : (k : ℕ) → Contains (won_of old) k → Contains (won_of new) k
@@ -122,39 +127,40 @@ pub record HelperGrows (p : Pause) (old new : Helper) : Type 0 where
   pub stack : (b : ℕ) → Contains old.stack.items b → Contains new.stack.items b
   pub fresh : (f : Found) → found p f.base ≡ Some f → Contains (won_of new) (granule f.base)
       → Contains (won_of old) (granule f.base) ⊎ (f.kind ≡ Normal → (i : ℕ) → i < f.len → IsAwaitedBy new f i)
+  pub own : AreWon old → AreWon new
   pub left : reads_left p new ≤ reads_left p old
 
 -- one of these words points into an object
-pub record IsPointedInto (p : Pause) (P : ℕ → Type 0) (object : Found) : Type 0 where
+pub record IsPointedInto (p : PauseView) (P : ℕ → Type 0) (object : Found) : Type 0 where
   pub word : ℕ
   pub one : P word
   pub points : found p word ≡ Some object
 
 -- only objects that one of these words points into were won and put on the stack
-pub record ClaimsOnly (p : Pause) (P : ℕ → Type 0) (old new : Helper) : Type 0 where
+pub record ClaimsOnly (p : PauseView) (P : ℕ → Type 0) (old new : Helper) : Type 0 where
   pub won : (k : ℕ) → Contains (won_of new) k → Contains (won_of old) k ⊎ ((f : Found) × IsPointedInto p P f × (granule f.base ≡ k))
   pub entries : (b : ℕ) → Contains new.stack.items b → Contains old.stack.items b ⊎ ((f : Found) × IsPointedInto p P f × (f.base ≡ b) × (f.kind ≡ Normal))
 
 -- what the word points into is known to be marked, nothing else was won, and no page has become carried
-pub record Visits (p : Pause) (w : ℕ) (old new : Helper) : Type 0 where
+pub record Visits (p : PauseView) (w : ℕ) (old new : Helper) : Type 0 where
   pub extends : HelperGrows p old new
   pub carried : new.carried ≡ old.carried
   pub target : IsTargetKnown p (view new.claimer) w
   pub only : ClaimsOnly p (λ v. v ≡ w) old new
 
 -- what these words point into is known to be marked, nothing else was won, and no page has become carried
-pub record VisitsAll (p : Pause) (ws : List ℕ) (old new : Helper) : Type 0 where
+pub record VisitsAll (p : PauseView) (ws : List ℕ) (old new : Helper) : Type 0 where
   pub extends : HelperGrows p old new
   pub carried : new.carried ≡ old.carried
   pub targets : (w : ℕ) → Contains ws w → IsTargetKnown p (view new.claimer) w
   pub only : ClaimsOnly p (λ w. Contains ws w) old new
 
 -- the word is one of the object
-abbrev pub IsWordOf : Pause → Found → ℕ → Type 0
+abbrev pub IsWordOf : PauseView → Found → ℕ → Type 0
 IsWordOf p f w = (i : ℕ) × (i < f.len) × (w ≡ word_in p f i)
 
 -- n words of an object were read, from its word `first` on; nothing else was won, and only their pages have become carried
-pub record ReadsWords (p : Pause) (f : Found) (first n : ℕ) (old new : Helper) : Type 0 where
+pub record ReadsWords (p : PauseView) (f : Found) (first n : ℕ) (old new : Helper) : Type 0 where
   pub extends : HelperGrows p old new
   pub read : (i : ℕ) → first ≤ i → i < first + n → IsWordRead p (view new.claimer) new.carried f i
   pub strays : (q : ℕ) → Has new.carried q → Has old.carried q ⊎ HasStrayOn p f q

@@ -1,5 +1,7 @@
+pub mod Pauses
 pub mod Crews
 pub mod Dealing
 pub mod Helping
 pub mod Serving
 pub mod Gathering
+pub mod Rounds

@@ -14,23 +14,23 @@ use Rattle.marker.specs.Closure.{Closure}
 use Rattle.marker.specs.Growth.{IsStrayPage}
 use Rattle.final_pause.specs.declared.deal.Share.{Share}
 use Rattle.final_pause.specs.declared.helper.Helper.{Helper}
-use Rattle.final_pause.specs.declared.share.Pause.{Pause}
+use Rattle.final_pause.specs.Pauses.{PauseView}
 use Rattle.final_pause.specs.Dealing.{IsDealt}
-use Rattle.final_pause.specs.Helping.{IsHelperOf, IsTargetKnown, IsWordRead, IsAwaitedBy, IsPageOfWon, found, won_of}
+use Rattle.final_pause.specs.Helping.{IsHelperOf, IsTargetKnown, IsWordRead, IsAwaitedBy, IsPageOfWon, AreWon, found, won_of}
 
 -- what the marks before and the roots reach
-abbrev pub IsReachable : Pause → Found → Type 0
-IsReachable p f = Closure (found p) p.memory.now p.roots.now (IsMarked p.marker.now) f
+abbrev pub IsReachable : PauseView → Found → Type 0
+IsReachable p f = Closure (found p) p.memory p.roots (IsMarked p.marker) f
 
 -- a reached object begins at this granule
-pub record IsReachedAt (p : Pause) (k : ℕ) : Type 0 where
+pub record IsReachedAt (p : PauseView) (k : ℕ) : Type 0 where
   pub object : Found
   pub is : found p object.base ≡ Some object
   pub first : granule object.base ≡ k
   pub reached : IsReachable p object
 
 -- a reached Normal object has this base
-pub record IsQueuedAt (p : Pause) (base : ℕ) : Type 0 where
+pub record IsQueuedAt (p : PauseView) (base : ℕ) : Type 0 where
   pub object : Found
   pub is : found p object.base ≡ Some object
   pub base_is : object.base ≡ base
@@ -38,65 +38,67 @@ pub record IsQueuedAt (p : Pause) (base : ℕ) : Type 0 where
   pub reached : IsReachable p object
 
 -- A helper at work, between two objects. Each word of a Normal object that it won was read, or the helper will come to it, or
--- its page is dirty in the helper's row; and on each page that it carries stands a stray word of a reached Normal object.
-pub record IsServing (p : Pause) (h : Helper) : Type 0 where
+-- its page is dirty in the helper's row; on each page that it carries stands a stray word of a reached Normal object; and it won what is
+-- on its stack.
+pub record IsServing (p : PauseView) (h : Helper) : Type 0 where
   pub fits : IsHelperOf p h
   pub part : HasPart (view h.claimer) (h.share.place + 1)
   pub won : (f : Found) → found p f.base ≡ Some f → f.kind ≡ Normal → Contains (won_of h) (granule f.base) → (i : ℕ) → i < f.len
       → IsWordRead p (view h.claimer) h.carried f i ⊎ IsAwaitedBy h f i
   pub dirtied : (q : ℕ) → Has h.dirty q → IsPageOfWon p h q
-  pub strays : (q : ℕ) → Has h.carried q → IsStrayPage (found p) p.memory.now p.roots.now p.marker.now q
+  pub strays : (q : ℕ) → Has h.carried q → IsStrayPage (found p) p.memory p.roots p.marker q
   pub queued : (b : ℕ) → Contains h.stack.items b → IsQueuedAt p b
   pub within : (k : ℕ) → Contains (won_of h) k → IsReachedAt p k
+  pub own : AreWon h
 
 -- the words that the entry had left were read, if it was one of a marked Normal object
-abbrev pub IsEntryRead : Pause → ClaimerView → List Bool → Entry → Type 0
-IsEntryRead p v carried e = (f : Found) → found p f.base ≡ Some f → f.base ≡ e.base → f.kind ≡ Normal → IsMarked p.marker.now f.base
+abbrev pub IsEntryRead : PauseView → ClaimerView → List Bool → Entry → Type 0
+IsEntryRead p v carried e = (f : Found) → found p f.base ≡ Some f → f.base ≡ e.base → f.kind ≡ Normal → IsMarked p.marker f.base
     → (i : ℕ) → e.next ≤ i → i < f.len → IsWordRead p v carried f i
 
 -- what the root words of a place point into, among the first n, is known to be marked
-abbrev pub AreRootsRead : Pause → ClaimerView → ℕ → ℕ → Type 0
-AreRootsRead p v place n = (i : ℕ) → i < n → i % p.helpers ≡ place → IsTargetKnown p v (slice_index p.roots.now i)
+abbrev pub AreRootsRead : PauseView → ClaimerView → ℕ → ℕ → Type 0
+AreRootsRead p v place n = (i : ℕ) → i < n → i % p.helpers ≡ place → IsTargetKnown p v (slice_index p.roots i)
 
 -- the first n of these entries were read
-abbrev pub AreEntriesRead : Pause → ClaimerView → List Bool → List Entry → ℕ → Type 0
+abbrev pub AreEntriesRead : PauseView → ClaimerView → List Bool → List Entry → ℕ → Type 0
 AreEntriesRead p v carried entries n = (i : ℕ) (d : Entry) → i < n → IsEntryRead p v carried (slice_index_or entries i d)
 
 -- the words between two addresses were read, if they are words of Normal objects that were marked before
-abbrev pub AreWordsRead : Pause → ClaimerView → List Bool → ℕ → ℕ → Type 0
-AreWordsRead p v carried low high = (f : Found) → found p f.base ≡ Some f → f.kind ≡ Normal → IsMarked p.marker.now f.base
+abbrev pub AreWordsRead : PauseView → ClaimerView → List Bool → ℕ → ℕ → Type 0
+AreWordsRead p v carried low high = (f : Found) → found p f.base ≡ Some f → f.kind ≡ Normal → IsMarked p.marker f.base
     → (i : ℕ) → i < f.len → low ≤ word_address f i → word_address f i < high → IsWordRead p v carried f i
 
 -- the same for the words of a page
-abbrev pub IsPageRead : Pause → ClaimerView → List Bool → ℕ → Type 0
+abbrev pub IsPageRead : PauseView → ClaimerView → List Bool → ℕ → Type 0
 IsPageRead p v carried page = AreWordsRead p v carried (page_start page) (page_start (page + 1))
 
 -- the words of the Normal objects that were marked before and begin at these granules were read
-abbrev pub AreObjectsRead : Pause → ClaimerView → List Bool → ℕ → ℕ → Type 0
-AreObjectsRead p v carried low past = (f : Found) → found p f.base ≡ Some f → f.kind ≡ Normal → IsMarked p.marker.now f.base
+abbrev pub AreObjectsRead : PauseView → ClaimerView → List Bool → ℕ → ℕ → Type 0
+AreObjectsRead p v carried low past = (f : Found) → found p f.base ≡ Some f → f.kind ≡ Normal → IsMarked p.marker f.base
     → low ≤ granule f.base → granule f.base < past → (i : ℕ) → i < f.len → IsWordRead p v carried f i
 
 -- those of the first n pages that are in the row were read
-abbrev pub ArePagesRead : Pause → ClaimerView → List Bool → List Bool → ℕ → Type 0
+abbrev pub ArePagesRead : PauseView → ClaimerView → List Bool → List Bool → ℕ → Type 0
 ArePagesRead p v carried row n = (page : ℕ) → page < n → Has row page → IsPageRead p v carried page
 
 -- The root words of the share's place, and the entries and the pages that were dealt to it, were read. Root word i is that of
 -- the place i modulo the number of helpers.
-pub record IsShareRead (p : Pause) (v : ClaimerView) (carried : List Bool) (share : Share) : Type 0 where
-  pub roots : AreRootsRead p v share.place (length p.roots.now)
+pub record IsShareRead (p : PauseView) (v : ClaimerView) (carried : List Bool) (share : Share) : Type 0 where
+  pub roots : AreRootsRead p v share.place (length p.roots)
   pub entries : AreEntriesRead p v carried share.entries.items (length share.entries.items)
-  pub pages : ArePagesRead p v carried share.pages (length p.map.now)
+  pub pages : ArePagesRead p v carried share.pages (length p.map)
 
 -- The helper of a place that is done: it serves, nothing is on its stack, and its share is read; so each word of a Normal object
 -- that it won was read, or stands on a dirty page of its row.
-pub record HasServed (p : Pause) (place : ℕ) (h : Helper) : Type 0 where
+pub record HasServed (p : PauseView) (place : ℕ) (h : Helper) : Type 0 where
   pub serving : IsServing p h
   pub here : h.share.place ≡ place
   pub empty : h.stack.items ≡ []
   pub read : IsShareRead p (view h.claimer) h.carried h.share
 
 -- a helper at work goes on, and keeps its share
-pub record GoesOnServing (p : Pause) (old new : Helper) : Type 0 where
+pub record GoesOnServing (p : PauseView) (old new : Helper) : Type 0 where
   pub serving : IsServing p new
   pub share : new.share ≡ old.share
   pub learns : LearnsMore (view old.claimer) (view new.claimer)

@@ -6,6 +6,7 @@ ghost use Rattle.mark_bits.specs.Tables.{view, IsOf};
 ghost use Rattle.mark_bits.specs.Claims.{joined, HasAll, HasPart};
 ghost use Rattle.final_pause.specs.declared.helper.Helper.{Helper as HelperValue};
 ghost use Rattle.final_pause.specs.Serving.{IsHired, HasServed};
+ghost use Rattle.final_pause.specs.Pauses.{pause_view};
 ghost use Rattle.final_pause.specs.Gathering.{AreNumbered, HasGathered};
 
 use crate::deal::deal;
@@ -57,6 +58,7 @@ fn new_helper(
         dirty,
         carried,
         share,
+        left: u64::MAX,
         actor: FIRST_HELPER + place,
         call: 0,
     })
@@ -119,6 +121,7 @@ fn take_in(
         dirty: more,
         carried: carried_more,
         share: _,
+        left: _,
         actor: _,
         call: _,
     } = helper;
@@ -136,9 +139,9 @@ pub(crate) fn gather(
     mut crew: Vec<Helper>,
 )
     requires all { vec_len crew ≡ pause.now.helpers }
-    requires first { HasGathered pause.now (vec_len crew) first.old dirty.old carried.old }
-    requires done { (i : ℕ) (d : HelperValue) → i < vec_len crew → HasServed pause.now i (slice_index_or crew.items i d) }
-    ensures { HasGathered pause.now 0 first.new dirty.new carried.new }
+    requires first { HasGathered (pause_view pause.now) (vec_len crew) first.old dirty.old carried.old }
+    requires done { (i : ℕ) (d : HelperValue) → i < vec_len crew → HasServed (pause_view pause.now) i (slice_index_or crew.items i d) }
+    ensures { HasGathered (pause_view pause.now) 0 first.new dirty.new carried.new }
 {
     while let Some(helper) = crew.pop() {
         take_in(pause.table, first, dirty, carried, helper);

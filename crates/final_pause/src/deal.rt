@@ -98,7 +98,7 @@ fn deal_page(
     before + 1
 }
 
-// The dirty pages of one place, of a heap of so many pages.
+// The dirty pages of one place, of a heap of so many pages. Behind the last dirty one nothing is looked at.
 fn deal_pages(
     alloc: Global,
     dirty: &DirtyPages,
@@ -113,9 +113,12 @@ fn deal_pages(
     ensures all { IfOk result (λ row. (q : ℕ) → Has dirty.now q → rank dirty.now q % helpers ≡ place → Has row q) }
 {
     let mut dealt = DirtyPages::new(alloc, pages)?;
+    let all = dirty.count() as usize;
+    let mut page = 0;
     let mut before = 0;
-    for page in 0..pages {
+    while before < all {
         before = deal_page(&mut dealt, dirty, page, before, place, helpers);
+        page += 1;
     }
     Ok(dealt)
 }

@@ -1,7 +1,7 @@
 //! One helper of a pause: what it holds, and what it does with an object.
 ghost use Rattle.std.specs.Prelude.{◌≡◌, ◌<◌, ◌≤◌, true, false, ◌∷◌, length, slice_set, if◌then◌else◌};
 ghost use Rattle.words.specs.declared.limits.TheConstants.{MOST_PAGES};
-ghost use Rattle.mark_bits.specs.Tables.{view, start_of, IsOf};
+ghost use Rattle.mark_bits.specs.Tables.{view, granules_of, IsOf};
 ghost use Rattle.mark_bits.specs.Claims.{knows, LearnsMore};
 ghost use Rattle.block_map.specs.Objects.{IsPlaced};
 ghost use Rattle.final_pause.specs.Helping.{QueuesObject};
@@ -20,16 +20,27 @@ use words::{Kind, PageNo};
 pub(crate) const ENTRIES: usize = MARK_STACK_ENTRIES as usize;
 
 /// What one helper marks with: its claimer, the bases of the objects that it still has to read, the pages of those that
-/// found no room, the pages that it carries, its share, its number for the gate, and how many claims it has made.
+/// found no room, the pages that it carries, its share, how many words of objects that it won it may still read, its number for the
+/// gate, and how many claims it has made.
 #[derive(Drop)]
-pub(crate) struct Helper {
+pub struct Helper {
     pub(crate) claimer: Claimer,
     pub(crate) stack: ArrayVec<u64, ENTRIES>,
     pub(crate) dirty: DirtyPages,
     pub(crate) carried: DirtyPages,
     pub(crate) share: Share,
+    pub(crate) left: u64,
     pub(crate) actor: u8,
     pub(crate) call: u32,
+}
+
+impl Helper {
+    /// Its place among the helpers of its round.
+    pub fn place(&self) -> usize
+        ensures { result ≡ self.now.share.place }
+    {
+        self.share.place
+    }
 }
 
 // A claim between two calls of the gate.
@@ -40,7 +51,7 @@ pub(crate) fn claim<G: Gate>(
     granule: usize,
 ) -> bool
     requires of { IsOf table.now helper.old.claimer }
-    requires inside { granule < length (start_of table.now) }
+    requires inside { granule < granules_of table.now }
     ensures of { IsOf table.now helper.new.claimer }
     ensures stack { helper.new.stack ≡ helper.old.stack }
     ensures dirty { helper.new.dirty ≡ helper.old.dirty }
@@ -69,10 +80,20 @@ pub(crate) fn queue(helper: &mut Helper, found: Found)
         return;
     }
     if helper.stack.is_full() {
-        dirty_object(&mut helper.dirty, found);
+        put_off(helper, found);
     } else {
         helper.stack.push(found.base);
     }
+}
+
+// Leaves the words of an object that the helper won to the pages that it covers, which become dirty.
+pub(crate) fn put_off(helper: &mut Helper, found: Found)
+    requires placed { IsPlaced (length helper.old.dirty) found }
+    requires small { length helper.old.dirty ≤ MOST_PAGES }
+    ensures queued { QueuesObject found helper.old helper.new }
+    ensures stack { helper.new.stack ≡ helper.old.stack }
+{
+    dirty_object(&mut helper.dirty, found);
 }
 
 // Makes the page carried.

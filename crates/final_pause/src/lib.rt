@@ -16,9 +16,12 @@ mod helper;
 mod helpers;
 mod page;
 mod parallel;
+mod round;
 mod share;
 
 pub use alone::close_marks;
 pub use gate::{COLLECTOR_ACTOR, FIRST_HELPER, Gate, Open};
+pub use helper::Helper;
 pub use helpers::Helpers;
 pub use parallel::close_marks_with;
+pub use round::Round;

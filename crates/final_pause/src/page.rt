@@ -14,6 +14,7 @@ ghost use Rattle.mark_bits.specs.Tables.{view};
 ghost use Rattle.block_map.specs.FoundIn.{found_in};
 ghost use Rattle.block_map.specs.States.{cut, state_at};
 ghost use Rattle.block_map.specs.Walks.{IsNextObject};
+ghost use Rattle.final_pause.specs.Pauses.{pause_view};
 ghost use Rattle.final_pause.specs.Serving.{IsServing, GoesOnServing, AreWordsRead, AreObjectsRead, IsPageRead, ArePagesRead};
 
 use crate::gate::Gate;
@@ -39,12 +40,12 @@ impl<'a> Pause<'a> {
         low: u64,
         high: u64,
     ) -> u64
-        requires serving { IsServing self.now helper.old }
+        requires serving { IsServing (pause_view self.now) helper.old }
         requires next { IsNextObject (found_in self.now.map.now) low high found }
         requires low { low % WORD_BYTES ≡ 0 }
         requires high { high % WORD_BYTES ≡ 0 }
-        ensures serves { GoesOnServing self.now helper.old helper.new }
-        ensures read { AreWordsRead self.now (view helper.new.claimer) helper.new.carried low result }
+        ensures serves { GoesOnServing (pause_view self.now) helper.old helper.new }
+        ensures read { AreWordsRead (pause_view self.now) (view helper.new.claimer) helper.new.carried low result }
         ensures further { low < result }
         ensures within { result ≤ high }
         ensures aligned { result % WORD_BYTES ≡ 0 }
@@ -62,10 +63,10 @@ impl<'a> Pause<'a> {
 
     // Reads the words on a page of all objects that were marked Normal ones before the helpers started, object by object.
     fn read_objects<G: Gate>(&self, gate: &G, helper: &mut Helper, page: PageNo)
-        requires serving { IsServing self.now helper.old }
+        requires serving { IsServing (pause_view self.now) helper.old }
         requires inside { page < length self.now.map.now }
-        ensures serves { GoesOnServing self.now helper.old helper.new }
-        ensures read { IsPageRead self.now (view helper.new.claimer) helper.new.carried page }
+        ensures serves { GoesOnServing (pause_view self.now) helper.old helper.new }
+        ensures read { IsPageRead (pause_view self.now) (view helper.new.claimer) helper.new.carried page }
     {
         let mut address = page_start(page);
         let end = address + PAGE_BYTES;
@@ -85,14 +86,14 @@ impl<'a> Pause<'a> {
         block: &Block,
         granule: usize,
     )
-        requires serving { IsServing self.now helper.old }
+        requires serving { IsServing (pause_view self.now) helper.old }
         requires inside { page < length self.now.map.now }
         requires cut { state_at self.now.map.now page ≡ cut block.now }
         requires normal { block.now.kind ≡ Normal }
         requires on { (PAGE_GRANULES * page ≤ granule) × (granule < PAGE_GRANULES * (page + 1)) }
         requires marked { Has self.now.marker.now.marks granule }
-        ensures serves { GoesOnServing self.now helper.old helper.new }
-        ensures read { AreObjectsRead self.now (view helper.new.claimer) helper.new.carried granule (granule + 1) }
+        ensures serves { GoesOnServing (pause_view self.now) helper.old helper.new }
+        ensures read { AreObjectsRead (pause_view self.now) (view helper.new.claimer) helper.new.carried granule (granule + 1) }
     {
         let base = FIRST_ADDRESS + GRANULE_BYTES * granule as u64;
         let Some(found) = object_from(page, block, base) else {
@@ -112,13 +113,13 @@ impl<'a> Pause<'a> {
         block: &Block,
         j: usize,
     )
-        requires serving { IsServing self.now helper.old }
+        requires serving { IsServing (pause_view self.now) helper.old }
         requires inside { page < length self.now.map.now }
         requires cut { state_at self.now.map.now page ≡ cut block.now }
         requires normal { block.now.kind ≡ Normal }
         requires on { (PAGE_GRANULES * page ≤ 64 * j) × (64 * (j + 1) ≤ PAGE_GRANULES * (page + 1)) }
-        ensures serves { GoesOnServing self.now helper.old helper.new }
-        ensures read { AreObjectsRead self.now (view helper.new.claimer) helper.new.carried (64 * j) (64 * (j + 1)) }
+        ensures serves { GoesOnServing (pause_view self.now) helper.old helper.new }
+        ensures read { AreObjectsRead (pause_view self.now) (view helper.new.claimer) helper.new.carried (64 * j) (64 * (j + 1)) }
     {
         let marks = self.marker.mark_row().as_words()[j];
         let mut rest = marks;
@@ -131,11 +132,11 @@ impl<'a> Pause<'a> {
 
     // Reads the words on a page that is cut of all objects that were marked Normal ones before the helpers started.
     fn read_cells<G: Gate>(&self, gate: &G, helper: &mut Helper, page: PageNo, block: &Block)
-        requires serving { IsServing self.now helper.old }
+        requires serving { IsServing (pause_view self.now) helper.old }
         requires inside { page < length self.now.map.now }
         requires cut { state_at self.now.map.now page ≡ cut block.now }
-        ensures serves { GoesOnServing self.now helper.old helper.new }
-        ensures read { IsPageRead self.now (view helper.new.claimer) helper.new.carried page }
+        ensures serves { GoesOnServing (pause_view self.now) helper.old helper.new }
+        ensures read { IsPageRead (pause_view self.now) (view helper.new.claimer) helper.new.carried page }
     {
         if block.kind() == Kind::PointerFree {
             return;
@@ -148,10 +149,10 @@ impl<'a> Pause<'a> {
 
     // Reads the words on a page of all objects that were marked Normal ones before the helpers started.
     fn read_page<G: Gate>(&self, gate: &G, helper: &mut Helper, page: PageNo)
-        requires serving { IsServing self.now helper.old }
+        requires serving { IsServing (pause_view self.now) helper.old }
         requires inside { page < length self.now.map.now }
-        ensures serves { GoesOnServing self.now helper.old helper.new }
-        ensures read { IsPageRead self.now (view helper.new.claimer) helper.new.carried page }
+        ensures serves { GoesOnServing (pause_view self.now) helper.old helper.new }
+        ensures read { IsPageRead (pause_view self.now) (view helper.new.claimer) helper.new.carried page }
     {
         match self.map.block(page) {
             Some(block) => self.read_cells(gate, helper, page, block),
@@ -161,10 +162,10 @@ impl<'a> Pause<'a> {
 
     // Reads a page with what it leads to, if it was dealt to the helper.
     fn read_dealt<G: Gate>(&self, gate: &G, helper: &mut Helper, page: PageNo)
-        requires serving { IsServing self.now helper.old }
+        requires serving { IsServing (pause_view self.now) helper.old }
         requires inside { page < length self.now.map.now }
-        ensures serves { GoesOnServing self.now helper.old helper.new }
-        ensures read { Has helper.old.share.pages page → IsPageRead self.now (view helper.new.claimer) helper.new.carried page }
+        ensures serves { GoesOnServing (pause_view self.now) helper.old helper.new }
+        ensures read { Has helper.old.share.pages page → IsPageRead (pause_view self.now) (view helper.new.claimer) helper.new.carried page }
     {
         if !helper.share.pages.is_dirty(page) {
             return;
@@ -173,13 +174,13 @@ impl<'a> Pause<'a> {
         self.read_stack(gate, helper);
     }
 
-    /// Reads the pages that were dealt to the helper, each with what it leads to.
+    /// Reads the pages that were dealt to the helper, each with what it leads to. Past the used ones there is no object.
     pub(crate) fn read_pages<G: Gate>(&self, gate: &G, helper: &mut Helper)
-        requires { IsServing self.now helper.old }
-        ensures serves { GoesOnServing self.now helper.old helper.new }
-        ensures read { ArePagesRead self.now (view helper.new.claimer) helper.new.carried helper.old.share.pages (length self.now.map.now) }
+        requires { IsServing (pause_view self.now) helper.old }
+        ensures serves { GoesOnServing (pause_view self.now) helper.old helper.new }
+        ensures read { ArePagesRead (pause_view self.now) (view helper.new.claimer) helper.new.carried helper.old.share.pages (length self.now.map.now) }
     {
-        for page in 0..self.map.len() {
+        for page in 0..self.map.used() {
             self.read_dealt(gate, helper, page);
         }
     }

@@ -7,17 +7,17 @@ ghost use Rattle.marker.specs.Invariant.{DirtyPageInvariant, AreRootsMarked};
 ghost use Rattle.marker.specs.Closure.{AreClosed};
 ghost use Rattle.marker.specs.Growth.{Traces};
 ghost use Rattle.each_law.specs.Jobs.{HaveRun};
+ghost use Rattle.final_pause.specs.Pauses.{pause_view};
 ghost use Rattle.final_pause.specs.Serving.{IsServing, HasServed};
 
 use crate::alone::close_marks;
 use crate::before::mark_before_helpers;
-use crate::crew::{gather, hire};
 use crate::gate::Gate;
 use crate::helper::Helper;
 use crate::helpers::Helpers;
+use crate::round::Round;
 use crate::share::Pause;
 use block_map::BlockMap;
-use dirty_pages::DirtyPages;
 use each_law::{Law, run_each};
 use marker::Marker;
 use pages::{Memory, Reader};
@@ -27,9 +27,10 @@ use std::sync::Wait;
 use std::thread::Threads;
 
 impl<'a> Law<Helper> for Pause<'a> {
+    ghost use Rattle.final_pause.specs.Pauses.{pause_view};
     ghost use Rattle.final_pause.specs.Serving.{HasServed};
 
-    ghost does = { λ p old new. HasServed p old.share.place new };
+    ghost does = { λ p old new. HasServed (pause_view p) old.share.place new };
 }
 
 // All helpers do their shares, the last on the calling thread and each other in a thread of its own. The error is that memory or a
@@ -37,22 +38,22 @@ impl<'a> Law<Helper> for Pause<'a> {
 fn help_each<R: Threads + Wait + Sync, G: Gate>(
     rt: &R,
     alloc: Global,
-    pause: Pause,
+    pause: &Pause,
     gate: &G,
     crew: Vec<Helper>,
 ) -> Result<Vec<Helper>, AllocError>
-    requires { All (λ h. IsServing pause h) crew.items }
-    ensures { IfOk result (λ v. HaveRun (λ old new. HasServed pause.entry old.share.place new) crew.items v.items) }
+    requires { All (λ h. IsServing (pause_view pause.now) h) crew.items }
+    ensures { IfOk result (λ v. HaveRun (λ old new. HasServed (pause_view pause.now) old.share.place new) crew.items v.items) }
 {
     let work = |helper|
-        requires { IsServing pause helper }
-        ensures { HasServed pause.entry helper.share.place result }
+        requires { IsServing (pause_view pause.now) helper }
+        ensures { HasServed (pause_view pause.entry.now) helper.share.place result }
     {
         let mut helper = helper;
         pause.help(gate, &mut helper);
         helper
     };
-    run_each(rt, alloc, &pause, &work, crew)
+    run_each(rt, alloc, pause, &work, crew)
 }
 
 // Marks with helpers, all at the same time. The answer is whether it did: without memory or a thread nothing
@@ -74,32 +75,14 @@ fn mark_with_helpers<R: Threads + Wait + Sync, G: Gate>(
     ensures unchanged { result ≡ false → marker.new ≡ marker.old }
 {
     marker.laws();
-    let Ok((table, mut first)) = marker.open_table(alloc) else {
+    let Ok((round, crew)) = Round::deal(alloc, marker, map, map.len(), helpers) else {
         return false;
     };
-    let Ok(mut dirty) = DirtyPages::new(alloc, map.len()) else {
+    let pause = round.pause(marker, map, memory, roots);
+    let Ok(crew) = help_each(rt, alloc, &pause, gate, crew) else {
         return false;
     };
-    let Ok(mut carried) = DirtyPages::new(alloc, map.len()) else {
-        return false;
-    };
-    let number = helpers.number();
-    let Ok(crew) = hire(alloc, &table, marker, map.len(), &mut first, number) else {
-        return false;
-    };
-    let pause = Pause {
-        table: &table,
-        marker,
-        map,
-        memory,
-        roots,
-        helpers: usize::from(number),
-    };
-    let Ok(crew) = help_each(rt, alloc, pause, gate, crew) else {
-        return false;
-    };
-    gather(&pause, &mut first, &mut dirty, &mut carried, crew);
-    marker.take_back(table, first, dirty, &carried);
+    round.gather(marker, map, memory, roots, crew);
     true
 }
 

@@ -1,16 +1,17 @@
 //! What one helper reads: its root words, the entries that were dealt to it, and what these lead to.
 ghost use Rattle.std.specs.Prelude.{◌≡◌, ℕ, ◌+◌, ◌<◌, ◌≤◌, [], ◌∷◌, true, false, Some, length};
-ghost use Rattle.mark_bits.specs.Tables.{view, start_of};
+ghost use Rattle.mark_bits.specs.Tables.{view, granules_of};
 ghost use Rattle.words.specs.Layout.{granule, page_of};
 ghost use Rattle.words.specs.declared.limits.TheConstants.{FIRST_ADDRESS};
 ghost use Rattle.block_map.specs.FoundIn.{found_in};
 ghost use Rattle.marker.specs.Marking.{IsOutside, bytes_of, word_address};
 ghost use Rattle.marker.specs.Growth.{TellsStray};
 ghost use Rattle.final_pause.specs.Helping.{IsReadyPause, IsObjectOf, IsHelperOf, Visits, VisitsAll, ReadsWords};
+ghost use Rattle.final_pause.specs.Pauses.{pause_view};
 ghost use Rattle.final_pause.specs.Serving.{IsServing, GoesOnServing, IsEntryRead, HasServed, AreRootsRead, AreEntriesRead};
 
 use crate::gate::Gate;
-use crate::helper::{Helper, carry, claim, queue};
+use crate::helper::{Helper, carry, claim, put_off, queue};
 use block_map::{BlockMap, Found};
 use mark_bits::MarkTable;
 use marker::{Entry, Marker};
@@ -33,10 +34,10 @@ impl<'a> Pause<'a> {
     // The granule at which an object begins.
     #[inline]
     fn granule(&self, found: Found) -> usize
-        requires ready { IsReadyPause self.now }
+        requires ready { IsReadyPause (pause_view self.now) }
         requires object { found_in self.now.map.now found.base ≡ Some found }
         ensures value { result ≡ granule found.base }
-        ensures inside { result < length (start_of self.now.table.now) }
+        ensures inside { result < granules_of self.now.table.now }
     {
         granule_of(found.base)
     }
@@ -44,7 +45,7 @@ impl<'a> Pause<'a> {
     // Whether a word lies in the heap's range.
     #[inline]
     fn is_inside(&self, word: u64) -> bool
-        requires ready { IsReadyPause self.now }
+        requires ready { IsReadyPause (pause_view self.now) }
         ensures inside { result ≡ true → (FIRST_ADDRESS ≤ word) × (word < FIRST_ADDRESS + bytes_of self.now.marker.now) }
         ensures outside { result ≡ false → IsOutside (bytes_of self.now.marker.now) word }
     {
@@ -54,8 +55,8 @@ impl<'a> Pause<'a> {
     // Marks the object that a word points into. Where this helper is the first to, the object is its own to read. Answers
     // whether the word is stray: it lies in the heap's range and points into no object.
     fn visit<G: Gate>(&self, gate: &G, helper: &mut Helper, word: u64) -> bool
-        requires { IsHelperOf self.now helper.old }
-        ensures visits { Visits self.now word helper.old helper.new }
+        requires { IsHelperOf (pause_view self.now) helper.old }
+        ensures visits { Visits (pause_view self.now) word helper.old helper.new }
         ensures stray { TellsStray (found_in self.now.map.now) (bytes_of self.now.marker.now) (word ∷ []) result }
     {
         // Most words lie outside of the heap.
@@ -79,8 +80,8 @@ impl<'a> Pause<'a> {
     // Marks what words point into, and answers whether one is stray.
     #[inline]
     fn visit_all<G: Gate>(&self, gate: &G, helper: &mut Helper, words: Words) -> bool
-        requires { IsHelperOf self.now helper.old }
-        ensures visits { VisitsAll self.now words.entry helper.old helper.new }
+        requires { IsHelperOf (pause_view self.now) helper.old }
+        ensures visits { VisitsAll (pause_view self.now) words.entry helper.old helper.new }
         ensures stray { TellsStray (found_in self.now.map.now) (bytes_of self.now.marker.now) words.entry result }
     {
         let mut stray = false;
@@ -100,11 +101,11 @@ impl<'a> Pause<'a> {
         first: u32,
         count: u64,
     )
-        requires fits { IsHelperOf self.now helper.old }
-        requires object { IsObjectOf self.now found }
+        requires fits { IsHelperOf (pause_view self.now) helper.old }
+        requires object { IsObjectOf (pause_view self.now) found }
         requires inside { first + count ≤ found.len }
         requires one_page { (i : ℕ) → first ≤ i → i < first + count → page_of (word_address found i) ≡ page_of (word_address found first) }
-        ensures { ReadsWords self.now found first count helper.old helper.new }
+        ensures { ReadsWords (pause_view self.now) found first count helper.old helper.new }
     {
         let start = found.base + WORD_BYTES * u64::from(first);
         let mut reader = Reader::new(self.memory);
@@ -122,10 +123,10 @@ impl<'a> Pause<'a> {
         first: u32,
         count: u64,
     )
-        requires fits { IsHelperOf self.now helper.old }
-        requires object { IsObjectOf self.now found }
+        requires fits { IsHelperOf (pause_view self.now) helper.old }
+        requires object { IsObjectOf (pause_view self.now) found }
         requires inside { first + count ≤ found.len }
-        ensures { ReadsWords self.now found first count helper.old helper.new }
+        ensures { ReadsWords (pause_view self.now) found first count helper.old helper.new }
     {
         let mut done = 0;
         while done < count {
@@ -140,9 +141,9 @@ impl<'a> Pause<'a> {
 
     // Marks what the root words of the helper's place point into.
     fn read_roots<G: Gate>(&self, gate: &G, helper: &mut Helper)
-        requires { IsServing self.now helper.old }
-        ensures serves { GoesOnServing self.now helper.old helper.new }
-        ensures roots { AreRootsRead self.now (view helper.new.claimer) helper.old.share.place (length self.now.roots.now) }
+        requires { IsServing (pause_view self.now) helper.old }
+        ensures serves { GoesOnServing (pause_view self.now) helper.old helper.new }
+        ensures roots { AreRootsRead (pause_view self.now) (view helper.new.claimer) helper.old.share.place (length self.now.roots.now) }
     {
         for i in 0..self.roots.len() {
             if i % self.helpers == helper.share.place {
@@ -153,9 +154,9 @@ impl<'a> Pause<'a> {
 
     // Marks what the words that an entry has left point into.
     fn read_entry<G: Gate>(&self, gate: &G, helper: &mut Helper, entry: Entry)
-        requires { IsServing self.now helper.old }
-        ensures serves { GoesOnServing self.now helper.old helper.new }
-        ensures read { IsEntryRead self.now (view helper.new.claimer) helper.new.carried entry }
+        requires { IsServing (pause_view self.now) helper.old }
+        ensures serves { GoesOnServing (pause_view self.now) helper.old helper.new }
+        ensures read { IsEntryRead (pause_view self.now) (view helper.new.claimer) helper.new.carried entry }
     {
         let Some(found) = self.marker.unread(self.map, entry) else {
             return;
@@ -164,23 +165,30 @@ impl<'a> Pause<'a> {
         self.read_words(gate, helper, found, entry.next, u64::from(count));
     }
 
-    // Reads the objects on the helper's stack, and those that come there, until none is left.
+    // Reads the objects on the helper's stack, and those that come there, until none is left. One that has more words than the helper
+    // may still read is left to its pages.
     pub(crate) fn read_stack<G: Gate>(&self, gate: &G, helper: &mut Helper)
-        requires { IsServing self.now helper.old }
-        ensures serves { GoesOnServing self.now helper.old helper.new }
+        requires { IsServing (pause_view self.now) helper.old }
+        ensures serves { GoesOnServing (pause_view self.now) helper.old helper.new }
         ensures empty { helper.new.stack.items ≡ [] }
     {
         while let Some(base) = helper.stack.pop() {
             let found = self.map.object_at(base);
-            self.read_words(gate, helper, found, 0, u64::from(found.len));
+            let words = u64::from(found.len);
+            if words > helper.left {
+                put_off(helper, found);
+            } else {
+                helper.left -= words;
+                self.read_words(gate, helper, found, 0, words);
+            }
         }
     }
 
     // Reads the entries that were dealt to the helper, each with what it leads to.
     fn read_entries<G: Gate>(&self, gate: &G, helper: &mut Helper)
-        requires { IsServing self.now helper.old }
-        ensures serves { GoesOnServing self.now helper.old helper.new }
-        ensures read { AreEntriesRead self.now (view helper.new.claimer) helper.new.carried helper.old.share.entries.items (length helper.old.share.entries.items) }
+        requires { IsServing (pause_view self.now) helper.old }
+        ensures serves { GoesOnServing (pause_view self.now) helper.old helper.new }
+        ensures read { AreEntriesRead (pause_view self.now) (view helper.new.claimer) helper.new.carried helper.old.share.entries.items (length helper.old.share.entries.items) }
     {
         for i in 0..helper.share.entries.len() {
             let entry = helper.share.entries.as_slice()[i];
@@ -191,8 +199,8 @@ impl<'a> Pause<'a> {
 
     /// A helper's whole work: the root words of its place before anything else, what was dealt to it, and all that these lead to.
     pub(crate) fn help<G: Gate>(&self, gate: &G, helper: &mut Helper)
-        requires { IsServing self.now helper.old }
-        ensures { HasServed self.now helper.old.share.place helper.new }
+        requires { IsServing (pause_view self.now) helper.old }
+        ensures { HasServed (pause_view self.now) helper.old.share.place helper.new }
     {
         self.read_roots(gate, helper);
         self.read_entries(gate, helper);

@@ -24,6 +24,7 @@ mod forget;
 mod free;
 mod looks;
 mod mark;
+mod round;
 mod sweep;
 mod taking;
 mod taking_many;

@@ -1,6 +1,7 @@
 use Rattle.std.proofs.Common.{rules, ◌≡◌, ℕ, ◌+◌, List, [], ◌∷◌, ◌++◌, length, vec_len, get_or, ap, ◌∙◌, subst, arith}
 use Rattle.std.proofs.Math.Seq.{get_or-append_seam}
 use Rattle.std.proofs.Math.ListN.{get_or-append}
+use Rattle.final_pause.specs.Pauses.{pause_view}
 use Rattle.final_pause.specs.declared.helper.Helper.{Helper}
 use Rattle.final_pause.specs.Serving.{HasServed}
 use Rattle.final_pause.specs.Gathering.{HasGathered}
@@ -9,7 +10,7 @@ use Rattle.final_pause.proofs.crew.gather.Goals as goal
 
 pub loop-helper-preserved : goal.loop-helper-preserved
 loop-helper-preserved c =
-    let p = c.args.pause.now in
+    let p = pause_view c.args.pause.now in
     let inv = c.loop-helper.invariant in let low : ℕ = vec_len c.pop.new.self in let h = c.in-Some.helper in
     let pop = c.in-Some.ensures in let k = c.take_in.ensures in
     let is : vec_len c.loop-helper.crew ≡ low + 1 = search rules in

@@ -2,6 +2,7 @@ use Rattle.std.proofs.Common.{◌≡◌, ◌+◌, ◌*◌, subst, rules, arith}
 use Rattle.words.specs.declared.class.Kind.TheVariants.{PointerFree}
 use Rattle.words.specs.declared.limits.TheConstants.{PAGE_GRANULES}
 use Rattle.mark_bits.specs.Tables.{view}
+use Rattle.final_pause.specs.Pauses.{pause_view}
 use Rattle.final_pause.specs.Serving.{AreObjectsRead}
 use Rattle.final_pause.proofs.Marked.{objects_none, objects_append, objects_more, objects_page, page_free}
 use Rattle.final_pause.proofs.Serving.{serves_refl, serves_trans}
@@ -10,13 +11,13 @@ use Rattle.final_pause.proofs.share.Pause.read_cells.Goals as goal
 pub returns-then-eq-clause-read : goal.returns-then-eq-clause-read
 returns-then-eq-clause-read g c =
     let h = c.args.helper.now in let kind : c.args.block.now.kind ≡ PointerFree = search rules in
-    page_free c.args.self.now c.requires.serving.fits.ready.map c.args.page c.args.block.now c.requires.cut (view h.claimer) h.carried kind
+    page_free (pause_view c.args.self.now) c.requires.serving.fits.ready.map c.args.page c.args.block.now c.requires.cut (view h.claimer) h.carried kind
 
 pub loop-j-init : goal.loop-j-init
 loop-j-init g c =
     let h = c.args.helper.now in (
-      serves_refl c.args.self.now h c.requires.serving,
-      objects_none c.args.self.now c.requires.serving.fits.ready.map (view h.claimer) h.carried (PAGE_GRANULES * c.args.page) (64 * (4 * c.args.page)) (λ k from below. absurd (omega arith)),
+      serves_refl (pause_view c.args.self.now) h c.requires.serving,
+      objects_none (pause_view c.args.self.now) c.requires.serving.fits.ready.map (view h.claimer) h.carried (PAGE_GRANULES * c.args.page) (64 * (4 * c.args.page)) (λ k from below. absurd (omega arith)),
     )
 
 pub read_marked-requires-clause-on : goal.read_marked-requires-clause-on
@@ -24,7 +25,7 @@ read_marked-requires-clause-on g c κs within = let from = c.loop-j.auto.j in le
 
 pub loop-j-preserved : goal.loop-j-preserved
 loop-j-preserved g c =
-    let p = c.args.self.now in let map = c.requires.serving.fits.ready.map in let i = c.loop-j.invariant in let e = c.read_marked.ensures in
+    let p = pause_view c.args.self.now in let map = c.requires.serving.fits.ready.map in let i = c.loop-j.invariant in let e = c.read_marked.ensures in
     let h = c.loop-j.helper in let h' = c.read_marked.new.helper in (
       serves_trans p c.args.helper.now h h' i.0 e.serves,
       objects_append p map (view h'.claimer) h'.carried (PAGE_GRANULES * c.args.page) (64 * c.loop-j.j) (64 * (c.loop-j.j + 1))
@@ -33,6 +34,6 @@ loop-j-preserved g c =
 
 pub returns-clause-read : goal.returns-clause-read
 returns-clause-read g c =
-    let p = c.args.self.now in let h = c.loop-j.helper in let below = c.loop-j.auto.j-end (omega arith) in let test = c.loop-j-test.false in
+    let p = pause_view c.args.self.now in let h = c.loop-j.helper in let below = c.loop-j.auto.j-end (omega arith) in let test = c.loop-j-test.false in
     objects_page p c.requires.serving.fits.ready.map c.args.page c.args.block.now c.requires.cut (view h.claimer) h.carried
     (subst (AreObjectsRead p (view h.claimer) h.carried (PAGE_GRANULES * c.args.page)) (let e : 64 * c.loop-j.j ≡ PAGE_GRANULES * (c.args.page + 1) = omega arith in e) c.loop-j.invariant.1)

@@ -2,6 +2,7 @@ use Rattle.std.proofs.Common.{◌≡◌, ◌<◌, ◌∙◌, List, length, get_o
 use Rattle.std.proofs.lemmas.List.{get_or_default}
 use Rattle.mark_bits.specs.Tables.{view}
 use Rattle.marker.specs.declared.entry.Entry.{Entry}
+use Rattle.final_pause.specs.Pauses.{pause_view}
 use Rattle.final_pause.specs.declared.deal.Share.{Share}
 use Rattle.final_pause.specs.Serving.{IsEntryRead}
 use Rattle.final_pause.proofs.Serving.{serves_trans, entry_more}
@@ -9,7 +10,7 @@ use Rattle.final_pause.proofs.share.Pause.read_entries.Goals as goal
 
 pub loop-i-preserved : goal.loop-i-preserved
 loop-i-preserved g c =
-    let p = c.args.self.now in let old = c.args.helper.now in let h = c.loop-i.helper in let i = c.loop-i.i in
+    let p = pause_view c.args.self.now in let old = c.args.helper.now in let h = c.loop-i.helper in let i = c.loop-i.i in
     let inv = c.loop-i.invariant in let entries : List Entry = old.share.entries.items in
     let h1 = c.read_entry.new.helper in let h2 = c.read_stack.new.helper in
     let s1 = c.read_entry.ensures.serves in let s2 = c.read_stack.ensures.serves in

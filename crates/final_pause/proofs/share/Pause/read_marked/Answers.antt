@@ -3,6 +3,7 @@ use Rattle.std.specs.Int.{trailing_zeros, w64}
 use Rattle.blocks.proofs.Rests.{rest_all, rest_first, rest_more, rest_none}
 use Rattle.mark_bits.specs.Tables.{view}
 use Rattle.marker.proofs.Rereading.{mark_at, no_mark}
+use Rattle.final_pause.specs.Pauses.{pause_view}
 use Rattle.final_pause.proofs.Marked.{marks_len, bits_of_marks, objects_none, objects_append, objects_next}
 use Rattle.final_pause.proofs.Serving.{serves_refl, serves_trans}
 use Rattle.final_pause.proofs.share.Pause.read_marked.Goals as goal
@@ -10,12 +11,12 @@ use Rattle.final_pause.proofs.share.Pause.read_marked.Goals as goal
 pub bounds-as_words-j : goal.bounds-as_words-j
 bounds-as_words-j g c =
     let size = c.as_words.ensures.size in let same : length c.mark_row.result.now ≡ length c.args.self.now.marker.now.marks = ap length c.mark_row.ensures in
-    let marks = marks_len c.args.self.now c.requires.serving.fits.ready in let on = c.requires.on in let high = on.1 in let inside = c.requires.inside in
+    let marks = marks_len (pause_view c.args.self.now) c.requires.serving.fits.ready in let on = c.requires.on in let high = on.1 in let inside = c.requires.inside in
     omega arith
 
 pub loop-rest-init : goal.loop-rest-init
 loop-rest-init g c =
-    let p = c.args.self.now in let h = c.args.helper.now in (
+    let p = pause_view c.args.self.now in let h = c.args.helper.now in (
       serves_refl p h c.requires.serving,
       0,
       rest_all _,
@@ -30,15 +31,15 @@ read_at-requires-clause-on g c κs within =
 
 pub read_at-requires-clause-marked : goal.read_at-requires-clause-marked
 read_at-requires-clause-marked g c κs within =
-    let p = c.args.self.now in let i = c.loop-rest.invariant in let some : 0 < c.loop-rest.rest = (let ne = c.loop-rest-test.true in omega arith) in
+    let p = pause_view c.args.self.now in let i = c.loop-rest.invariant in let some : 0 < c.loop-rest.rest = (let ne = c.loop-rest-test.true in omega arith) in
     let first = rest_first _ _ _ i.2 some (omega arith) in
-    mark_at p.marker.now.marks _ c.args.j _
+    mark_at p.marker.marks _ c.args.j _
     (bits_of_marks p c.requires.serving.fits.ready c.mark_row.result.now c.as_words.result.now c.args.page c.args.j c.mark_row.ensures c.as_words.ensures.bits c.requires.inside c.requires.on.1)
     first.inside first.here
 
 pub loop-rest-preserved : goal.loop-rest-preserved
 loop-rest-preserved g c =
-    let p = c.args.self.now in let map = c.requires.serving.fits.ready.map in let i = c.loop-rest.invariant in let e = c.read_at.ensures in
+    let p = pause_view c.args.self.now in let map = c.requires.serving.fits.ready.map in let i = c.loop-rest.invariant in let e = c.read_at.ensures in
     let h = c.loop-rest.helper in let h' = c.read_at.new.helper in
     let some : 0 < c.loop-rest.rest = (let ne = c.loop-rest-test.true in omega arith) in
     let first = rest_first _ _ _ i.2 some (omega arith) in let inside = first.inside in
@@ -47,7 +48,7 @@ loop-rest-preserved g c =
       t + 1,
       rest_more _ _ _ i.2 some (omega arith),
       objects_next p map (view h.claimer) (view h'.claimer) h.carried h'.carried e.serves.learns.known e.serves.carried (64 * c.args.j) (64 * c.args.j + i.1) (64 * c.args.j + t) (64 * c.args.j + (t + 1)) (omega arith)
-          (no_mark p.marker.now.marks _ c.args.j i.1 t
+          (no_mark p.marker.marks _ c.args.j i.1 t
           (bits_of_marks p c.requires.serving.fits.ready c.mark_row.result.now c.as_words.result.now c.args.page c.args.j c.mark_row.ensures c.as_words.ensures.bits c.requires.inside c.requires.on.1)
           (omega arith) first.least)
           i.3 e.read,
@@ -55,10 +56,10 @@ loop-rest-preserved g c =
 
 pub returns-clause-read : goal.returns-clause-read
 returns-clause-read g c =
-    let p = c.args.self.now in let map = c.requires.serving.fits.ready.map in let i = c.loop-rest.invariant in let h = c.loop-rest.helper in
+    let p = pause_view c.args.self.now in let map = c.requires.serving.fits.ready.map in let i = c.loop-rest.invariant in let h = c.loop-rest.helper in
     let none = rest_none _ _ _ c.loop-rest-test.false i.2 in let few = i.2.few in
     objects_append p map (view h.claimer) h.carried (64 * c.args.j) (64 * c.args.j + i.1) (64 * (c.args.j + 1)) i.3
     (objects_none p map (view h.claimer) h.carried (64 * c.args.j + i.1) (64 * (c.args.j + 1))
-    (λ k from below. no_mark p.marker.now.marks _ c.args.j i.1 64
+    (λ k from below. no_mark p.marker.marks _ c.args.j i.1 64
     (bits_of_marks p c.requires.serving.fits.ready c.mark_row.result.now c.as_words.result.now c.args.page c.args.j c.mark_row.ensures c.as_words.ensures.bits c.requires.inside c.requires.on.1)
     (omega arith) none.none k from (omega arith)))

@@ -1,6 +1,7 @@
 use Rattle.std.proofs.Common.{◌+◌, arith}
 use Rattle.words.specs.Layout.{page_start}
 use Rattle.mark_bits.specs.Tables.{view}
+use Rattle.final_pause.specs.Pauses.{pause_view}
 use Rattle.final_pause.proofs.Serving.{serves_refl, serves_trans, words_more, words_append, words_end}
 use Rattle.final_pause.proofs.share.Pause.read_objects.Goals as goal
 
@@ -8,7 +9,7 @@ pub loop-found-init : goal.loop-found-init
 loop-found-init g c =
     let f = c.page_start-address.ensures in
     record {
-      serves = serves_refl c.args.self.now c.args.helper.now c.requires.serving;
+      serves = serves_refl (pause_view c.args.self.now) c.args.helper.now c.requires.serving;
       read = λ h o n m i lt from below. absurd (omega (arith, f, from, below));
       from = omega arith;
       within = omega arith;
@@ -17,7 +18,7 @@ loop-found-init g c =
 
 pub loop-found-preserved : goal.loop-found-preserved
 loop-found-preserved g c =
-    let p = c.args.self.now in let i = c.loop-found.invariant in let e = c.read_part-address.ensures in
+    let p = pause_view c.args.self.now in let i = c.loop-found.invariant in let e = c.read_part-address.ensures in
     let h = c.loop-found.helper in let h' = c.read_part-address.new.helper in
     record {
       serves = serves_trans p c.args.helper.now h h' i.serves e.serves;
@@ -30,6 +31,6 @@ loop-found-preserved g c =
 
 pub returns-clause-read : goal.returns-clause-read
 returns-clause-read g c =
-    let p = c.args.self.now in let i = c.loop-found.invariant in
+    let p = pause_view c.args.self.now in let i = c.loop-found.invariant in
     words_append p (view c.loop-found.helper.claimer) c.loop-found.helper.carried (page_start c.args.page) c.loop-found.address (page_start (c.args.page + 1)) i.read
     (words_end p c.requires.serving.fits.ready.map (view c.loop-found.helper.claimer) c.loop-found.helper.carried c.loop-found.address (page_start (c.args.page + 1)) c.in_default.ensures)

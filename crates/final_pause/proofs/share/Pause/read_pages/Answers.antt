@@ -1,14 +1,19 @@
-use Rattle.std.proofs.Common.{sym, subst, below_more}
+use Rattle.std.proofs.Common.{◌<◌, length, sym, subst, below_more, ⊎_elim, arith}
+use Rattle.std.proofs.lemmas.Bool.{cases_lt}
+use Rattle.marker.specs.Marking.{word_address}
+use Rattle.marker.proofs.Rescanning.{reads_own}
 use Rattle.words.specs.Bits.{Has}
 use Rattle.mark_bits.specs.Tables.{view}
+use Rattle.final_pause.specs.Pauses.{pause_view}
 use Rattle.final_pause.specs.declared.deal.Share.{Share}
+use Rattle.final_pause.specs.Helping.{found}
 use Rattle.final_pause.specs.Serving.{IsPageRead}
 use Rattle.final_pause.proofs.Serving.{serves_trans, words_more}
 use Rattle.final_pause.proofs.share.Pause.read_pages.Goals as goal
 
 pub loop-page-preserved : goal.loop-page-preserved
 loop-page-preserved g c =
-    let p = c.args.self.now in let old = c.args.helper.now in let h = c.loop-page.helper in let page = c.loop-page.page in
+    let p = pause_view c.args.self.now in let old = c.args.helper.now in let h = c.loop-page.helper in let page = c.loop-page.page in
     let inv = c.loop-page.invariant in let h' = c.read_dealt.new.helper in let s = c.read_dealt.ensures.serves in (
       serves_trans p old h h' inv.0 s,
       (λ k lt d. below_more (λ j. Has old.share.pages j → IsPageRead p (view h'.claimer) h'.carried j) page
@@ -16,3 +21,15 @@ loop-page-preserved g c =
           (λ d. c.read_dealt.ensures.read (subst (λ (s : Share). Has s.pages page) (sym inv.0.share) d))
           k lt d),
     )
+
+pub returns-clause-read : goal.returns-clause-read
+returns-clause-read g c = λ page inside d f o n m i lt from below. ⊎_elim
+    (λ (used : page < c.used-page-end.result).
+    let end = c.loop-page-test.false in
+    c.loop-page.invariant.1 page (omega (arith, used, end)) d f o n m i lt from below)
+    (λ past.
+    let p = pause_view c.args.self.now in let map = c.requires.fits.ready.map in
+    let on = c.used-page-end.ensures.below (word_address f i) f (reads_own (length p.map) (found p) map f i o lt) in
+    let above = (map.placed f.base f o).above in
+    absurd (omega (arith, past, on, from, above)))
+    (cases_lt page c.used-page-end.result)

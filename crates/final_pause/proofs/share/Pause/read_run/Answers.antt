@@ -4,6 +4,7 @@ use Rattle.marker.specs.Marking.{bytes_of, word_address}
 use Rattle.marker.specs.Growth.{CarriesPage, TellsStray, words_from}
 use Rattle.marker.proofs.Beside.{only_run}
 use Rattle.marker.proofs.Words.{run_page, carries_some, carries_none}
+use Rattle.final_pause.specs.Pauses.{pause_view}
 use Rattle.final_pause.specs.Helping.{found, VisitsAll}
 use Rattle.final_pause.proofs.Growing.{lent_words, reads_run}
 use Rattle.final_pause.proofs.share.Pause.read_run.Goals as goal
@@ -31,47 +32,47 @@ page_of-requires g c =
 -- where a word is stray, there is one, and so its page is one of the heap
 pub carry-requires : goal.carry-requires
 carry-requires g c =
-    let p = c.args.self.now in let object = c.args.found in let r = c.requires.fits.ready in let placed = r.map.placed _ _ c.requires.object.points in
+    let p = pause_view c.args.self.now in let object = c.args.found in let r = c.requires.fits.ready in let placed = r.map.placed _ _ c.requires.object.points in
     let f = c.from.ensures in
-    let run = lent_words p.memory.now c.new-reader.result.words c.read_run.result (length p.map.now) object c.args.first c.args.count _ placed c.requires.inside r.memory (omega arith) (only_run c.new-reader.result.words c.new-reader.result.moments _ _ _ c.new-reader.ensures.moments c.read_run.ensures.run) c.new-reader.ensures.words in
-    let tells : TellsStray (found p) (bytes_of p.marker.now) (words_from p.memory.now object c.args.first c.args.count) true =
-    subst (λ (ws : List ℕ). TellsStray (found p) (bytes_of p.marker.now) ws true) run (subst (TellsStray (found p) (bytes_of p.marker.now) c.read_run.result) c.if-visit_all.true c.visit_all.ensures.stray) in
+    let run = lent_words p.memory c.new-reader.result.words c.read_run.result (length p.map) object c.args.first c.args.count _ placed c.requires.inside r.memory (omega arith) (only_run c.new-reader.result.words c.new-reader.result.moments _ _ _ c.new-reader.ensures.moments c.read_run.ensures.run) c.new-reader.ensures.words in
+    let tells : TellsStray (found p) (bytes_of p.marker) (words_from p.memory object c.args.first c.args.count) true =
+    subst (λ (ws : List ℕ). TellsStray (found p) (bytes_of p.marker) ws true) run (subst (TellsStray (found p) (bytes_of p.marker) c.read_run.result) c.if-visit_all.true c.visit_all.ensures.stray) in
     let q = c.page_of.ensures in
-    let on = run_page (length p.map.now) p.memory.now object c.args.first c.args.count (found p) (bytes_of p.marker.now) _ true placed c.requires.inside refl tells refl in
+    let on = run_page (length p.map) p.memory object c.args.first c.args.count (found p) (bytes_of p.marker) _ true placed c.requires.inside refl tells refl in
     let size = c.visit_all.ensures.visits.extends.carried_len in let pages = c.requires.fits.carried in
     omega arith
 
 pub returns-then-visit_all : goal.returns-then-visit_all
 returns-then-visit_all g c =
-    let p = c.args.self.now in let object = c.args.found in let r = c.requires.fits.ready in let placed = r.map.placed _ _ c.requires.object.points in
+    let p = pause_view c.args.self.now in let object = c.args.found in let r = c.requires.fits.ready in let placed = r.map.placed _ _ c.requires.object.points in
     let f = c.from.ensures in
-    let run = lent_words p.memory.now c.new-reader.result.words c.read_run.result (length p.map.now) object c.args.first c.args.count _ placed c.requires.inside r.memory (omega arith) (only_run c.new-reader.result.words c.new-reader.result.moments _ _ _ c.new-reader.ensures.moments c.read_run.ensures.run) c.new-reader.ensures.words in
-    let tells : TellsStray (found p) (bytes_of p.marker.now) (words_from p.memory.now object c.args.first c.args.count) true =
-    subst (λ (ws : List ℕ). TellsStray (found p) (bytes_of p.marker.now) ws true) run (subst (TellsStray (found p) (bytes_of p.marker.now) c.read_run.result) c.if-visit_all.true c.visit_all.ensures.stray) in
+    let run = lent_words p.memory c.new-reader.result.words c.read_run.result (length p.map) object c.args.first c.args.count _ placed c.requires.inside r.memory (omega arith) (only_run c.new-reader.result.words c.new-reader.result.moments _ _ _ c.new-reader.ensures.moments c.read_run.ensures.run) c.new-reader.ensures.words in
+    let tells : TellsStray (found p) (bytes_of p.marker) (words_from p.memory object c.args.first c.args.count) true =
+    subst (λ (ws : List ℕ). TellsStray (found p) (bytes_of p.marker) ws true) run (subst (TellsStray (found p) (bytes_of p.marker) c.read_run.result) c.if-visit_all.true c.visit_all.ensures.stray) in
     let q = c.page_of.ensures in
-    let on = run_page (length p.map.now) p.memory.now object c.args.first c.args.count (found p) (bytes_of p.marker.now) _ true placed c.requires.inside refl tells refl in
+    let on = run_page (length p.map) p.memory object c.args.first c.args.count (found p) (bytes_of p.marker) _ true placed c.requires.inside refl tells refl in
     let size = c.visit_all.ensures.visits.extends.carried_len in let pages = c.requires.fits.carried in
     let k = c.carry.ensures in
     let is : c.page_of.result ≡ page_of (word_address object c.args.first) = omega arith in
     reads_run p object c.args.first c.args.count (page_of (word_address object c.args.first)) c.args.helper.now c.visit_all.new.helper c.carry.new.helper c.requires.inside c.requires.one_page
     (subst (λ (ws : List ℕ). VisitsAll p ws c.args.helper.now c.visit_all.new.helper) run c.visit_all.ensures.visits)
     k.claimer k.stack k.dirty k.share
-    (subst (CarriesPage (found p) (bytes_of p.marker.now) (words_from p.memory.now object c.args.first c.args.count) (page_of (word_address object c.args.first)) c.visit_all.new.helper.carried)
+    (subst (CarriesPage (found p) (bytes_of p.marker) (words_from p.memory object c.args.first c.args.count) (page_of (word_address object c.args.first)) c.visit_all.new.helper.carried)
     (ap (λ (n : ℕ). set c.visit_all.new.helper.carried n true) (sym is) ∙ sym k.carried)
-    (carries_some (found p) (bytes_of p.marker.now) _ (page_of (word_address object c.args.first)) c.visit_all.new.helper.carried (omega arith) tells))
+    (carries_some (found p) (bytes_of p.marker) _ (page_of (word_address object c.args.first)) c.visit_all.new.helper.carried (omega arith) tells))
 
 pub returns-else-visit_all : goal.returns-else-visit_all
 returns-else-visit_all g c =
-    let p = c.args.self.now in let object = c.args.found in let r = c.requires.fits.ready in let placed = r.map.placed _ _ c.requires.object.points in
+    let p = pause_view c.args.self.now in let object = c.args.found in let r = c.requires.fits.ready in let placed = r.map.placed _ _ c.requires.object.points in
     let f = c.from.ensures in
-    let run = lent_words p.memory.now c.new-reader.result.words c.read_run.result (length p.map.now) object c.args.first c.args.count _ placed c.requires.inside r.memory (omega arith) (only_run c.new-reader.result.words c.new-reader.result.moments _ _ _ c.new-reader.ensures.moments c.read_run.ensures.run) c.new-reader.ensures.words in
-    let tells : TellsStray (found p) (bytes_of p.marker.now) (words_from p.memory.now object c.args.first c.args.count) false =
-    subst (λ (ws : List ℕ). TellsStray (found p) (bytes_of p.marker.now) ws false) run (subst (TellsStray (found p) (bytes_of p.marker.now) c.read_run.result) c.if-visit_all.false c.visit_all.ensures.stray) in
+    let run = lent_words p.memory c.new-reader.result.words c.read_run.result (length p.map) object c.args.first c.args.count _ placed c.requires.inside r.memory (omega arith) (only_run c.new-reader.result.words c.new-reader.result.moments _ _ _ c.new-reader.ensures.moments c.read_run.ensures.run) c.new-reader.ensures.words in
+    let tells : TellsStray (found p) (bytes_of p.marker) (words_from p.memory object c.args.first c.args.count) false =
+    subst (λ (ws : List ℕ). TellsStray (found p) (bytes_of p.marker) ws false) run (subst (TellsStray (found p) (bytes_of p.marker) c.read_run.result) c.if-visit_all.false c.visit_all.ensures.stray) in
     let h = c.visit_all.new.helper in
     reads_run p object c.args.first c.args.count (page_of (word_address object c.args.first)) c.args.helper.now h h c.requires.inside c.requires.one_page
     (subst (λ (ws : List ℕ). VisitsAll p ws c.args.helper.now c.visit_all.new.helper) run c.visit_all.ensures.visits)
     refl refl refl refl
-    (carries_none (found p) (bytes_of p.marker.now) _ (page_of (word_address object c.args.first)) h.carried tells)
+    (carries_none (found p) (bytes_of p.marker) _ (page_of (word_address object c.args.first)) h.carried tells)
 
 pub overflow_cast-page_of : goal.overflow_cast-page_of
 overflow_cast-page_of g c =

@@ -1,20 +1,35 @@
-use Rattle.std.proofs.Common.{◌∙◌, ◌∷◌, [], ℕ, List, refl, sym, ap, subst, arith}
+use Rattle.std.proofs.Common.{◌∙◌, ◌-◌, ◌∷◌, [], ℕ, List, refl, sym, ap, subst, arith}
 use Rattle.std.specs.Prelude.{Contains}
 use Rattle.std.proofs.lemmas.List.Elements.{Contains-append_right}
+use Rattle.block_map.specs.Objects.{IsPlaced}
+use Rattle.final_pause.specs.Pauses.{pause_view}
 use Rattle.final_pause.specs.Helping.{found, ReadsWords}
-use Rattle.final_pause.proofs.Serving.{serves_pop, serves_trans}
+use Rattle.final_pause.proofs.Serving.{serves_pop, serves_left, serves_trans}
 use Rattle.final_pause.proofs.share.Pause.read_stack.Goals as goal
 
 pub object_at-found-requires : goal.object_at-found-requires
 object_at-found-requires g c =
-    let p = c.args.self.now in let base = c.in-Some.base in
+    let p = pause_view c.args.self.now in let base = c.in-Some.base in
     let q = c.loop-base.invariant.serving.queued base (subst (λ (l : List ℕ). Contains l base) (sym c.in-Some.ensures.items) (Contains-append_right _ (base ∷ []) base (0, omega arith, refl))) in
     record { base = (q.object, ap (found p) (sym q.base_is) ∙ q.is, q.base_is) }
 
+pub put_off-requires-clause-placed : goal.put_off-requires-clause-placed
+put_off-requires-clause-placed g c =
+    let s = c.loop-base.invariant.serving in let f = c.object_at-found.result in
+    subst (λ (n : ℕ). IsPlaced n f) (sym s.fits.dirty) (s.fits.ready.map.placed c.in-Some.base f c.object_at-found.ensures.object)
+
+pub loop-base-preserved-then-words-helper : goal.loop-base-preserved-then-words-helper
+loop-base-preserved-then-words-helper g c =
+    let p = pause_view c.args.self.now in let h = c.loop-base.helper in let f = c.object_at-found.result in let inv = c.loop-base.invariant in
+    let m = record h { stack = c.pop.new.self } in let b = c.put_off.new.helper in
+    serves_trans p c.args.helper.now h b inv
+    (serves_left p inv.serving.fits.ready.map h m c.in-Some.base f refl refl refl refl c.in-Some.ensures.items c.object_at-found.ensures.object inv.serving
+    b c.put_off.ensures.queued c.put_off.ensures.stack)
+
 pub loop-base-preserved : goal.loop-base-preserved
 loop-base-preserved g c =
-    let p = c.args.self.now in let h = c.loop-base.helper in let f = c.object_at-found.result in let inv = c.loop-base.invariant in
-    let m = record h { stack = c.pop.new.self } in let b = c.read_words.new.helper in
+    let p = pause_view c.args.self.now in let h = c.loop-base.helper in let f = c.object_at-found.result in let inv = c.loop-base.invariant in
+    let m = record h { stack = c.pop.new.self; left = c.loop-base.helper.left - c.from-words.result } in let b = c.read_words.new.helper in
     serves_trans p c.args.helper.now h b inv
-    (serves_pop p inv.serving.fits.ready.map h m b c.in-Some.base f refl refl refl refl c.in-Some.ensures.items c.object_at-found.ensures.object inv.serving
-    (subst (λ (n : ℕ). ReadsWords p f 0 n m b) c.from.ensures c.read_words.ensures))
+    (serves_pop p inv.serving.fits.ready.map h m c.in-Some.base f refl refl refl refl c.in-Some.ensures.items c.object_at-found.ensures.object inv.serving
+    b (subst (λ (n : ℕ). ReadsWords p f 0 n m b) c.from-words.ensures c.read_words.ensures))

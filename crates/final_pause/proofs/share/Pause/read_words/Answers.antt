@@ -1,10 +1,11 @@
 use Rattle.std.proofs.Common.{◌+◌, arith}
+use Rattle.final_pause.specs.Pauses.{pause_view}
 use Rattle.final_pause.proofs.Growing.{reads_none, reads_append}
 use Rattle.final_pause.proofs.Serving.{fits_more}
 use Rattle.final_pause.proofs.share.Pause.read_words.Goals as goal
 
 pub loop-done-init : goal.loop-done-init
-loop-done-init g c = record { reads = reads_none c.args.self.now c.args.found c.args.first c.args.helper.now c.requires.fits.of; within = omega arith }
+loop-done-init g c = record { reads = reads_none (pause_view c.args.self.now) c.args.found c.args.first c.args.helper.now c.requires.fits.of; within = omega arith }
 
 pub overflow_add-address : goal.overflow_add-address
 overflow_add-address g c =
@@ -12,7 +13,7 @@ overflow_add-address g c =
     let s = c.requires.fits.ready.few in let l = c.requires.inside in omega arith
 
 pub read_run-requires-clause-fits : goal.read_run-requires-clause-fits
-read_run-requires-clause-fits g c κs within = fits_more c.args.self.now c.args.helper.now c.loop-done.helper c.loop-done.invariant.reads.extends c.requires.fits
+read_run-requires-clause-fits g c κs within = fits_more (pause_view c.args.self.now) c.args.helper.now c.loop-done.helper c.loop-done.invariant.reads.extends c.requires.fits
 
 pub read_run-requires-clause-one_page : goal.read_run-requires-clause-one_page
 read_run-requires-clause-one_page g c κs within i from below =
@@ -22,7 +23,7 @@ read_run-requires-clause-one_page g c κs within i from below =
 
 pub loop-done-preserved : goal.loop-done-preserved
 loop-done-preserved g c = record {
-  reads = reads_append c.args.self.now c.args.found c.args.first c.loop-done.done (c.args.first + c.loop-done.done) c.min-run.result c.args.helper.now c.loop-done.helper c.read_run.new.helper (omega arith)
+  reads = reads_append (pause_view c.args.self.now) c.args.found c.args.first c.loop-done.done (c.args.first + c.loop-done.done) c.min-run.result c.args.helper.now c.loop-done.helper c.read_run.new.helper (omega arith)
       c.loop-done.invariant.reads c.read_run.ensures;
   within = (let m = c.min-run.ensures in let b = c.loop-done.invariant.within in omega arith);
 }
