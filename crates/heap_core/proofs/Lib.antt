@@ -25,3 +25,4 @@ pub mod Legal
 pub mod Many
 pub mod Unreached
 pub mod FreedWords
+pub mod Sharing

@@ -20,3 +20,4 @@ pub mod Many
 pub mod BesideCalls
 pub mod FreedWords
 pub mod Straight
+pub mod Sharing

@@ -21,6 +21,7 @@ mod many;
 mod objects;
 mod partial;
 mod registers;
+pub(crate) mod shares;
 mod written;
 
 use links::Links;

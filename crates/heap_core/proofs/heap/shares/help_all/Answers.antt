@@ -1,0 +1,34 @@
+use Rattle.std.proofs.Common.{◌≡◌, ◌∙◌, ℕ, get_or, set, sym, ap, subst, arith, ⊎_elim}
+use Rattle.std.proofs.lemmas.Bool.{cases_eq}
+use Rattle.std.proofs.lemmas.List.{get_or_default, get_or-set_same, get_or-set_other, length-set}
+use Rattle.final_pause.specs.declared.helper.Helper.{Helper}
+use Rattle.final_pause.specs.Serving.{IsServing, HasServed}
+use Rattle.heap_core.specs.CoreContents.{CoreContents}
+use Rattle.heap_core.specs.Sharing.{core_view}
+use Rattle.heap_core.proofs.heap.shares.help_all.Goals as goal
+
+pub help-requires : goal.help-requires
+help-requires c =
+    let at : ℕ = c.loop-helper.helper-index in let h = c.helper-item.result in
+    subst (λ (core : CoreContents). IsServing (core_view core c.args.lent.now.round) (get_or c.loop-helper.helper-items at h)) (sym c.deref.ensures)
+    (subst (IsServing (core_view c.args.lent.now.core.value c.args.lent.now.round)) (sym (c.loop-helper.invariant.rest at h (omega arith))) (c.requires at h c.loop-helper-test.true))
+
+pub loop-helper-preserved : goal.loop-helper-preserved
+loop-helper-preserved c =
+    let p = core_view c.args.lent.now.core.value c.args.lent.now.round in
+    let items = c.loop-helper.helper-items in let at : ℕ = c.loop-helper.helper-index in let new = c.help.new.helper in
+    let inv = c.loop-helper.invariant in let test = c.loop-helper-test.true in
+    let size = inv.size in
+    record {
+      size = length-set items at new ∙ inv.size;
+      done = λ i d lt. ⊎_elim
+          (λ (e : i ≡ at).
+          let h = c.helper-item.result in
+          let was : get_or items at h ≡ get_or c.args.crew.now i d = inv.rest at h (omega arith) ∙ (get_or_default c.args.crew.now at h d test ∙ ap (λ (n : ℕ). get_or c.args.crew.now n d) (sym e)) in
+          let is : new ≡ get_or (set items at new) i d = sym (ap (λ (n : ℕ). get_or (set items at new) n d) e ∙ get_or-set_same items at new d (omega (arith, test, size))) in
+          let served : HasServed p (get_or items at h).share.place new = subst (λ (core : CoreContents). HasServed (core_view core c.args.lent.now.round) (get_or items at h).share.place new) c.deref.ensures c.help.ensures in
+          subst (λ (k : Helper). HasServed p k.share.place (get_or (set items at new) i d)) was (subst (HasServed p (get_or items at h).share.place) is served))
+          (λ ne. subst (HasServed p (get_or c.args.crew.now i d).share.place) (sym (get_or-set_other items at i new d ne)) (inv.done i d (omega (arith, lt, ne))))
+          (cases_eq i at);
+      rest = λ i d le. get_or-set_other items at i new d (λ e. absurd (omega (arith, le, e))) ∙ inv.rest i d (omega (arith, le));
+    }

@@ -1,0 +1,232 @@
+//! The marking of a cycle by helpers whom the caller runs: the core is lent to a round of them, shares go to other threads and come back,
+//! and what they won and left is put together.
+ghost use Rattle.std.specs.Prelude.{◌≡◌, ℕ, ◌+◌, ◌<◌, ◌≤◌, ◌⊎◌, true, false, IfOk, IfErr, MatchOption, MatchResult, Some, length, vec_len, slice_index_or};
+ghost use Rattle.final_pause.specs.declared.helper.Helper.{Helper as HelperValue};
+ghost use Rattle.final_pause.specs.Serving.{IsServing, HasServed};
+ghost use Rattle.final_pause.specs.Rounds.{IsRound, AreServing, AreServed};
+ghost use Rattle.heap_core.specs.Sharing.{core_view, IsSameRound, HasShares, MarksTogether};
+
+use super::Core;
+use final_pause::{Helper, Helpers, Round};
+use std::alloc::{AllocError, Global};
+use std::marker::Model;
+use std::sync::Arc;
+
+/// Why a core is not lent.
+#[derive(Clone, Copy, Debug, PartialEq, Eq)]
+pub enum NotLent {
+    /// No cycle is marking.
+    WrongPhase,
+
+    /// A growth of memory was refused.
+    Memory,
+}
+
+/// A core that is lent to the helpers of a round.
+#[derive(Drop)]
+struct Lent {
+    core: Box<Core>,
+    round: Round,
+}
+
+/// Shares of a round over a core, of places in a row. Those of one round may go to several threads.
+#[derive(Drop)]
+pub struct Shares {
+    lent: Arc<Lent>,
+    crew: Vec<Helper>,
+    from: usize,
+    is_done: bool,
+}
+
+impl Model for Shares {
+    ghost use Rattle.std.specs.Arc.{arc_value};
+    ghost use Rattle.heap_core.specs.Sharing.{Sharing, IsSharing};
+
+    ghost Value = { Sharing };
+
+    ghost view = { λ s. record { core = (arc_value s.lent).core.value; round = (arc_value s.lent).round; crew = s.crew.items; from = s.from; is_done = s.is_done } };
+
+    ghost invariant = { λ s. IsSharing (record { core = (arc_value s.lent).core.value; round = (arc_value s.lent).round; crew = s.crew.items; from = s.from; is_done = s.is_done }) };
+}
+
+impl Core {
+    // Deals all that waits to be read to so many helpers.
+    fn deal(&self, alloc: Global, helpers: Helpers) -> Result<(Round, Vec<Helper>), AllocError>
+        ensures size { IfOk result (λ d. vec_len d.1 ≡ helpers.number) }
+        ensures number { IfOk result (λ d. d.0.helpers ≡ helpers.number) }
+        ensures round { IfOk result (λ d. IsRound (core_view self.now d.0) d.0) }
+        ensures crew { IfOk result (λ d. AreServing (core_view self.now d.0) 0 d.1.items) }
+    {
+        let used = self.objects.used();
+        self.objects.deal(alloc, &self.marker, used, helpers)
+    }
+
+    // Does a helper's share, and answers how many words it read.
+    fn help(&self, round: &Round, most: u64, helper: &mut Helper) -> u64
+        requires { IsServing (core_view self.now round.now) helper.old }
+        ensures { HasServed (core_view self.now round.now) helper.old.share.place helper.new }
+    {
+        self.objects.help(round, &self.marker, most, helper)
+    }
+
+    // Puts together what the helpers won and left.
+    fn gather(&mut self, round: Round, crew: Vec<Helper>)
+        requires marking { self.old.cycle.is_marking ≡ true }
+        requires round { IsRound (core_view self.old round) round }
+        requires all { vec_len crew ≡ round.helpers }
+        requires served { AreServed (core_view self.old round) 0 crew.items }
+        ensures { MarksTogether self.old self.new }
+    {
+        self.objects.gather(round, &mut self.marker, crew);
+    }
+}
+
+// Does the shares of all these helpers, and answers how many words they read.
+fn help_all(lent: &Lent, most: u64, crew: &mut [Helper]) -> u64
+    requires { (i : ℕ) (d : HelperValue) → i < length crew.old → IsServing (core_view lent.now.core.value lent.now.round) (slice_index_or crew.old i d) }
+    ensures len { length crew.new ≡ length crew.old }
+    ensures served { (i : ℕ) (d : HelperValue) → i < length crew.old → HasServed (core_view lent.now.core.value lent.now.round) (slice_index_or crew.old i d).share.place (slice_index_or crew.new i d) }
+{
+    let mut read = 0u64;
+    for helper in crew {
+        read = read.saturating_add(lent.core.help(&lent.round, most, helper));
+    }
+    read
+}
+
+impl Shares {
+    /// Lends a core: all that its marker has to read is dealt to so many helpers.
+    ///
+    /// # Errors
+    /// The core as it was, with [`NotLent::WrongPhase`] exactly while no cycle is marking, and else [`NotLent::Memory`].
+    pub fn lend(
+        alloc: Global,
+        core: Box<Core>,
+        helpers: Helpers,
+    ) -> Result<Shares, (Box<Core>, NotLent)>
+        ensures ok { IfOk result (λ s. (core.value.cycle.is_marking ≡ true) × (s.core ≡ core.value) × (s.from ≡ 0) × (length s.crew ≡ helpers.number)) }
+        ensures err { IfErr result (λ e. (e.0.value ≡ core.value) × ((e.1 ≡ NotLent.WrongPhase) × (core.value.cycle.is_marking ≡ false) ⊎ (e.1 ≡ NotLent.Memory) × (core.value.cycle.is_marking ≡ true))) }
+    {
+        if !core.is_marking {
+            return Err((core, NotLent::WrongPhase));
+        }
+        let Ok((round, crew)) = core.deal(alloc, helpers) else {
+            return Err((core, NotLent::Memory));
+        };
+        match Arc::new(alloc, Lent { core, round }) {
+            Ok(lent) => Ok(Shares {
+                lent,
+                crew,
+                from: 0,
+                is_done: false,
+            }),
+            Err(refused) => {
+                let Lent { core, round: _ } = refused.value;
+                Err((core, NotLent::Memory))
+            }
+        }
+    }
+
+    /// Takes the last share out, for another thread, and `None` where there is none.
+    ///
+    /// # Errors
+    /// [`AllocError`] where a growth of memory was refused. Then nothing has changed.
+    pub fn hire(&mut self, alloc: Global) -> Result<Option<Shares>, AllocError>
+        ensures ok { IfOk result (λ o. MatchOption o ((length self.old.crew ≡ 0) × (self.new ≡ self.old)) (λ one. HasShares self.old self.old.from (length self.new.crew) self.new × HasShares self.old (self.old.from + length self.new.crew) 1 one × (length self.new.crew + 1 ≡ length self.old.crew))) }
+        ensures err { IfErr result (λ _. self.new ≡ self.old) }
+    {
+        let mut crew = Vec::with_capacity(alloc, 1)?;
+        let lent = Arc::try_clone(&self.lent)?;
+        let Some(helper) = self.crew.pop() else {
+            return Ok(None);
+        };
+        let from = helper.place();
+        // There is room for one.
+        let Ok(()) = crew.push(helper) else {
+            return Err(AllocError);
+        };
+        Ok(Some(Shares {
+            lent,
+            crew,
+            from,
+            is_done: self.is_done,
+        }))
+    }
+
+    /// Does these shares: of each, what was dealt to it and what that leads to, until it has read so many words of objects that it was the
+    /// first to mark; the others are left to their pages. Answers how many they read of these. Shares that are done aren't done again. It
+    /// takes no memory.
+    pub fn help(&mut self, most: u64) -> u64
+        ensures { HasShares self.old self.old.from (length self.old.crew) self.new × (self.new.is_done ≡ true) }
+    {
+        if self.is_done {
+            return 0;
+        }
+        let read = help_all(&self.lent, most, self.crew.as_mut_slice());
+        self.is_done = true;
+        read
+    }
+
+    /// Takes shares of the same round back, of the places behind these. Answers them where they are others, or where a growth of memory was
+    /// refused: then nothing has changed.
+    pub fn join(&mut self, other: Shares) -> Result<(), Shares>
+        requires same { IsSameRound self.old other }
+        ensures ok { IfOk result (λ _. HasShares self.old self.old.from (length self.old.crew + length other.crew) self.new × (other.from ≡ self.old.from + length self.old.crew)) }
+        ensures err { IfErr result (λ back. (back ≡ other) × (self.new ≡ self.old)) }
+    {
+        let Some(next) = self.from.checked_add(self.crew.len()) else {
+            return Err(other);
+        };
+        if other.from != next {
+            return Err(other);
+        }
+        let Shares {
+            lent,
+            mut crew,
+            from,
+            is_done,
+        } = other;
+        let Ok(()) = self.crew.append(&mut crew) else {
+            return Err(Shares {
+                lent,
+                crew,
+                from,
+                is_done,
+            });
+        };
+        self.is_done = self.is_done && is_done;
+        Ok(())
+    }
+
+    /// Puts together what all helpers of the round won and left, and gives the core back. Shares that aren't done are done first.
+    ///
+    /// # Errors
+    /// The shares, where one of the round is out.
+    pub fn gather(mut self) -> Result<Box<Core>, Shares>
+        ensures ok { IfOk result (λ core. MarksTogether self.core core.value) }
+        ensures err { IfErr result (λ back. HasShares self self.from (length self.crew) back) }
+    {
+        if self.from != 0 || self.crew.len() != usize::from(self.lent.round.helpers()) {
+            return Err(self);
+        }
+        let _read = self.help(u64::MAX);
+        let Shares {
+            lent,
+            crew,
+            from,
+            is_done,
+        } = self;
+        match Arc::try_unwrap(lent) {
+            Ok(Lent { mut core, round }) => {
+                core.gather(round, crew);
+                Ok(core)
+            }
+            Err(lent) => Err(Shares {
+                lent,
+                crew,
+                from,
+                is_done,
+            }),
+        }
+    }
+}
