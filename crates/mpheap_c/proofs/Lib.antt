@@ -1,2 +1,4 @@
 mod AsBox
+mod Inside
 mod Walks
+mod Places

@@ -1,16 +1,16 @@
--- A handle after its core was lent.
+-- A handle after its value was lent.
 use Rattle.std.specs.Prelude.{Some}
 use base.Fml.{Fml}
+use denote.RattleType.{RattleType}
 use denote.Ref.{MutBor}
 use denote.Follow.{follows}
-use Rattle.heap_core.specs.contracts.heap.Core.{the_row as core_row}
-use Rattle.mpheap_c.specs.declared.handle.Heap.{Heap}
-use Rattle.mpheap_c.specs.contracts.handle.Heap.{the_row as heap_row}
+use Rattle.mpheap_c.specs.declared.handle.Handle.{Handle}
+use Rattle.mpheap_c.specs.contracts.handle.Handle.{the_row as handle_row}
 
--- the handle with this core
-abbrev pub with_core : Heap → core_row.Denot → Heap
-with_core h w = record { at = h.at; alloc = h.alloc; core = Some w }
+-- the handle with this value
+abbrev pub with_value : {X : Type 0} → Handle X → X → Handle X
+with_value h w = record { at = h.at; alloc = h.alloc; value = Some w }
 
--- once the borrow r ends, the handle behind h has the core that was last written through r
-abbrev pub heap_follows : MutBor Heap → MutBor core_row.Denot → Fml
-heap_follows h r = follows heap_row core_row h.ghost_name r.ghost_name (with_core h.now)
+-- once the borrow r ends, the handle behind h has the value that was last written through r
+abbrev pub handle_follows : (R : RattleType) → MutBor (Handle R.Denot) → MutBor R.Denot → Fml
+handle_follows R h r = follows (handle_row R) R h.ghost_name r.ghost_name (with_value h.now)

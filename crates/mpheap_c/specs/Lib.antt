@@ -1,4 +1,9 @@
 pub mod Handle
 pub mod Follows
+pub mod Heap
+pub mod HeapFollows
+pub mod Crew
+pub mod CrewFollows
 pub mod Crossing
 pub mod Many
+pub mod Sharing

@@ -3,7 +3,7 @@ ghost use Rattle.heap_core.specs.DirectWrites.{TellsWritten};
 ghost use Rattle.mpheap_c.specs.Handle.{IsOpen};
 ghost use Rattle.mpheap_c.specs.Crossing.{Holds, HasFreePages, HasDirtyPages, HasPendingPages, HasUsedPages, TellsFreeRun};
 
-use crate::handle::Heap;
+use crate::heap::Heap;
 
 /// Tells that C writes the word at an address itself: while a cycle is marking, the page of the address becomes dirty.
 #[unsafe(no_mangle)]

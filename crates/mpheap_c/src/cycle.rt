@@ -11,7 +11,7 @@ ghost use Rattle.mpheap_c.specs.Handle.{IsOpen};
 ghost use Rattle.mpheap_c.specs.Crossing.{Holds, TellsDoneOf, TellsWordOf, HasCount, HasPhase, HasMark};
 
 use crate::asked::Asked;
-use crate::handle::Heap;
+use crate::heap::Heap;
 use crate::status::{done, word_to};
 
 /// Begins a cycle.

@@ -1,79 +1,84 @@
 //! A handle.
 ghost use Rattle.std.specs.Prelude.{◌≡◌, Option, Some, None};
-ghost use Rattle.heap_core.specs.CoreContents.{CoreContents};
 ghost use denote.RawPtr.{null_ptr};
-ghost use Rattle.mpheap_c.specs.Handle.{core_owns, IsOpen};
+ghost use Rattle.mpheap_c.specs.Handle.{owns_at, IsOpen};
 
 mod lend;
 mod parts;
 
-use heap_core::Core;
 use parts::Parts;
 use std::alloc::Global;
 use std::marker::Model;
 use std::ptr::null_mut;
 
+/// What C keeps of a value that this library allocated: a closed handle owns nothing, and an open one its value.
 #[repr(C)]
-pub struct Heap {
-    pub(crate) at: *mut u8,
+pub struct Handle<T> {
+    pub(crate) at: *mut T,
     alloc: Global,
-    pub ghost core: { Option CoreContents },
+    pub ghost value: { Option T },
 }
 
-impl Model for Heap {
-    ghost also_owns = { λ h. core_owns h.alloc h.at h.core };
+impl<T> Model for Handle<T> {
+    ghost also_owns = { λ h. owns_at T.row h.alloc h.at h.value };
 }
 
-impl Heap {
+impl<T> Handle<T> {
     /// An open handle.
-    pub fn of(core: Box<Core>) -> Heap
-        ensures { result.core ≡ Some core.value }
+    pub fn of(value: Box<T>) -> Handle<T>
+    where
+        T: Drop,
+        ensures { result.value ≡ Some value.value }
     {
-        Heap::of_parts(Parts::of(core))
+        Handle::of_parts(Parts::of(value))
     }
 
-    /// Frees the core.
-    pub fn close(self)
-        requires { IsOpen self.core }
+    /// The value of an open handle.
+    pub fn into_box(self) -> Box<T>
+        requires { IsOpen self.value }
+        ensures { self.value ≡ Some result.value }
     {
-        drop(self.into_parts().into_box());
+        self.into_parts().into_box()
+    }
+
+    /// Frees the value.
+    pub fn close(self)
+    where
+        T: Drop,
+        requires { IsOpen self.value }
+    {
+        drop(self.into_box());
     }
 
     /// Lets go of a closed handle. An open one can only be closed.
     pub fn let_go(self)
-        requires { self.core ≡ None }
+        requires { self.value ≡ None }
     {
-        let Heap { at: _, alloc: _ } = self;
+        let Handle { at: _, alloc: _ } = self;
     }
 
     /// A closed handle, which owns nothing. Its address is null.
-    pub fn closed(alloc: Global) -> Heap
-        ensures { (result.core ≡ None) × (result.at ≡ null_ptr) }
+    pub fn closed(alloc: Global) -> Handle<T>
+        ensures { (result.value ≡ None) × (result.at ≡ null_ptr) }
     {
-        Heap {
+        Handle {
             at: null_mut(),
             alloc,
         }
     }
 
-    fn of_parts(parts: Parts<Core, Global>) -> Heap
-        ensures { result.core ≡ Some parts.value }
+    fn of_parts(parts: Parts<T, Global>) -> Handle<T>
+        ensures { result.value ≡ Some parts.value }
     {
         let Parts { ptr, alloc } = parts;
-        Heap {
-            at: ptr as *mut u8,
-            alloc,
-        }
+        Handle { at: ptr, alloc }
     }
 
-    fn into_parts(self) -> Parts<Core, Global>
-        requires { IsOpen self.core }
-        ensures { self.core ≡ Some result.value }
+    fn into_parts(self) -> Parts<T, Global>
+        requires { IsOpen self.value }
+        ensures { self.value ≡ Some result.value }
     {
-        let Heap { at, alloc } = self;
-        Parts {
-            ptr: at as *mut Core,
-            alloc,
-        }
+        let Handle { at, alloc } = self;
+        Parts { ptr: at, alloc }
     }
 }

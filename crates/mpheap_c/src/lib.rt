@@ -11,11 +11,14 @@
 
 mod asked;
 mod beside;
+mod crew;
 mod cycle;
 mod handle;
+mod heap;
 mod linked;
 mod many;
 mod objects;
 mod open;
 mod registers;
+mod shares;
 mod status;

@@ -4,7 +4,7 @@ ghost use Rattle.words.specs.declared.limits.TheConstants.{SLOTS, REGISTERS};
 ghost use Rattle.mpheap_c.specs.Handle.{IsOpen};
 ghost use Rattle.mpheap_c.specs.Crossing.{IsAnswered, IsServed, IsDoneCall, IsCountCall};
 
-use crate::handle::Heap;
+use crate::heap::Heap;
 use crate::status::{BAD_NUMBER, done, word_to};
 use heap_spec::{Call, Event};
 use words::{Reg, Slot};

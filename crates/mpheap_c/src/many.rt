@@ -5,7 +5,7 @@ ghost use Rattle.mpheap_c.specs.Handle.{IsOpen};
 ghost use Rattle.mpheap_c.specs.Crossing.{IsAnswered};
 ghost use Rattle.mpheap_c.specs.Many.{IsManyCall};
 
-use crate::handle::Heap;
+use crate::heap::Heap;
 use crate::status::{BAD_NUMBER, done};
 use words::{Kind, Reg, Slot};
 

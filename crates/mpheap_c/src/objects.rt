@@ -4,7 +4,7 @@ ghost use Rattle.words.specs.declared.limits.TheConstants.{SLOTS, REGISTERS};
 ghost use Rattle.mpheap_c.specs.Handle.{IsOpen};
 ghost use Rattle.mpheap_c.specs.Crossing.{IsAnswered, IsServed, IsWordCall, IsBaseCall, IsDoneCall, IsCountCall, Holds, FindsAt};
 
-use crate::handle::Heap;
+use crate::heap::Heap;
 use crate::status::{BAD_NUMBER, NO_OBJECT, done, word_to};
 use heap_spec::{Call, Event};
 use words::{Kind, Reg, Slot};

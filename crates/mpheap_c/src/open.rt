@@ -4,7 +4,8 @@ ghost use denote.RawPtr.{null_ptr};
 ghost use Rattle.mpheap_c.specs.Handle.{IsOpen};
 ghost use Rattle.mpheap_c.specs.Crossing.{IsOpenedAs, IsOpenedWith};
 
-use crate::handle::Heap;
+use crate::handle::Handle;
+use crate::heap::Heap;
 use crate::status::{BAD_PAGES, NO_MEMORY};
 use heap_core::{Core, Limits};
 use std::alloc::Global;
@@ -21,7 +22,7 @@ pub extern "C" fn mpheap_open(alloc: Global, pages: u32, heap: &mut Heap) -> u32
     match Core::new(alloc, pages) {
         Ok(core) => match Box::new(alloc, core) {
             Ok(boxed) => {
-                replace(heap, Heap::of(boxed)).let_go();
+                replace(heap.inside(), Handle::of(boxed)).let_go();
                 0
             }
             Err(_) => NO_MEMORY,
@@ -52,7 +53,7 @@ pub extern "C" fn mpheap_open_with(
     match Core::open(alloc, limits) {
         Ok(core) => match Box::new(alloc, core) {
             Ok(boxed) => {
-                replace(heap, Heap::of(boxed)).let_go();
+                replace(heap.inside(), Handle::of(boxed)).let_go();
                 0
             }
             Err(_) => NO_MEMORY,
@@ -69,5 +70,5 @@ pub extern "C" fn mpheap_close(alloc: Global, heap: &mut Heap)
     ensures closed { heap.new.core ≡ None }
     ensures null { heap.new.at ≡ null_ptr }
 {
-    replace(heap, Heap::closed(alloc)).close();
+    replace(heap.inside(), Handle::closed(alloc)).close();
 }

@@ -4,7 +4,7 @@ ghost use Rattle.words.specs.declared.limits.TheConstants.{SLOTS, REGISTERS, GLO
 ghost use Rattle.mpheap_c.specs.Handle.{IsOpen};
 ghost use Rattle.mpheap_c.specs.Crossing.{IsAnswered, IsServed, IsWordCall, IsDoneCall, IsAttached, Holds};
 
-use crate::handle::Heap;
+use crate::heap::Heap;
 use crate::status::{BAD_NUMBER, done, slot_to, word_to};
 use heap_spec::{Call, Event};
 use words::{Global, Reg, Slot};

@@ -6,7 +6,10 @@ use words::{Refusal, Slot};
 /// The code of the refusal that the word points into no object.
 pub const NO_OBJECT: u32 = 3;
 
-/// A number names no slot, register or global.
+/// The code of the refusal in the wrong phase.
+pub const WRONG_PHASE: u32 = 9;
+
+/// A number names no slot, register or global, or no share that fits.
 pub const BAD_NUMBER: u32 = 100;
 
 /// No page, or more than the limit.

@@ -1,18 +1,19 @@
-// The core behind a handle, lent.
+// The value behind a handle, lent.
 ghost use Rattle.std.specs.Prelude.{◌≡◌, Some};
 ghost use types.Logic.{sem};
 ghost use Rattle.mpheap_c.specs.Handle.{IsOpen};
-ghost use Rattle.mpheap_c.specs.Follows.{heap_follows};
+ghost use Rattle.mpheap_c.specs.Follows.{handle_follows};
 
-use super::Heap;
-use heap_core::Core;
+use super::Handle;
 
-impl Heap {
-    pub fn core(&mut self) -> &mut Core
-        requires { IsOpen self.old.core }
-        ensures* writes_back { sem 𝓛 (heap_follows self.entry result) }
-        ensures value { self.old.core ≡ Some result.now }
+impl<T> Handle<T> {
+    /// The value.
+    pub fn value(&mut self) -> &mut T
+        requires { IsOpen self.old.value }
+        ensures* writes_back { sem 𝓛 (handle_follows T.row self.entry result) }
+        ensures value { self.old.value ≡ Some result.now }
     {
-        unsafe { &mut *(self.at as *mut Core) }
+        let at = self.at;
+        unsafe { &mut *at }
     }
 }
