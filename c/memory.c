@@ -1,5 +1,5 @@
-/* The memory of a heap for C: the three functions by which the proved library asks for memory, over malloc, realloc and free,
- * and mpheap_open_mapped, by which the words of one heap stand at their own addresses.
+/* The memory of a heap for C: the three functions by which the proved library asks for memory, over malloc, realloc and free, or
+ * over memory that the caller lends (lent.c), and mpheap_open_mapped, by which the words of one heap stand at their own addresses.
  *
  * Trusted, not proved: the library's proofs take it that what these three answer is memory of so many bytes, aligned to 16 or
  * less, that nobody else uses until it is given back, and that a growth keeps the bytes that were there. And that memset
@@ -7,6 +7,7 @@
 #ifndef _GNU_SOURCE
 #define _GNU_SOURCE
 #endif
+#include "lent.h"
 #include "mpheap.h"
 #include <errno.h>
 #include <stdatomic.h>
@@ -77,6 +78,7 @@ static void *map_words(size_t bytes) {
 
 memory rattle_alloc(size_t bytes, size_t align) {
     fresh = NULL;
+    if (mpheap_is_lent()) return answer(mpheap_ask_lent(bytes != 0 ? bytes : align));
     if (wanted != 0 && bytes == wanted && before-- == 0) return answer(map_words(bytes));
     if (bytes < LARGE) return answer(malloc(bytes != 0 ? bytes : align));
     fresh = calloc(1, bytes + SPARE);
@@ -86,8 +88,8 @@ memory rattle_alloc(size_t bytes, size_t align) {
 
 /* The library never grows the words of a heap, so what is mapped never comes here. */
 memory rattle_realloc(void *at, size_t kept, size_t bytes, size_t align) {
-    (void)kept;
     fresh = NULL;
+    if (mpheap_is_lent()) return answer(mpheap_grow_lent(at, kept, bytes != 0 ? bytes : align));
     return answer(realloc(at, bytes != 0 ? bytes : align));
 }
 
@@ -96,6 +98,8 @@ void rattle_dealloc(void *at) {
     fresh = NULL;
     if (bytes != 0) {
         munmap(at, bytes);
+    } else if (mpheap_is_lent()) {
+        mpheap_give_back_lent(at);
     } else {
         free(at);
     }

@@ -9,13 +9,13 @@
  *
  * STATUSES. Each function that answers a uint32_t and is not a figure answers a status (enum mpheap_status). 0 is done. 1 to 99
  * is a refusal of the heap: nothing of it has changed, but that a FULL has swept the pages that were still to be swept. 100 and
- * up is refused before the heap is asked: BAD_NUMBER says that a number names no slot, register or global. Results go through
- * the last parameters, which are written only where the status is 0 (the two calls that allocate many say how many came before
- * a refusal). Where a call could be refused for several reasons the first of these is told: BAD_NUMBER, NO_SLOT, then in the
- * order in which the call's own comment names them.
+ * up is refused before the heap is asked: BAD_NUMBER says that a number names no slot, register or global (what else it says of
+ * the calls that share marking stands there). Results go through the last parameters, which are written only where the status is 0
+ * (the two calls that allocate many say how many came before a refusal). Where a call could be refused for several reasons the
+ * first of these is told: BAD_NUMBER, NO_SLOT, then in the order in which the call's own comment names them.
  *
- * MEMORY. Only the opens ask for memory, and only they and mpheap_close touch errno. No call prints, ends the process or
- * calls back.
+ * MEMORY. Only the opens ask for memory, and the calls that share marking (below), and only these and the closes touch errno. No
+ * call prints, ends the process or calls back.
  *
  * WHAT THE CALLER OWES, and what nothing here checks:
  *  - `heap` points to an mpheap that was opened and has not been closed since. A closed one is null inside, so a call on it
@@ -56,7 +56,8 @@ enum mpheap_status {
     MPHEAP_LINKS_FULL = 10,       /* MPHEAP_MAX_LINKS links stand, and none at the address */
     MPHEAP_NOT_POINTER_FREE = 11, /* the address points into an object that is not pointer-free */
     MPHEAP_NEEDS_FULL = 12,       /* a partial cycle has no marks to begin with: a full one comes first */
-    MPHEAP_BAD_NUMBER = 100,      /* a slot, register or global is out of range */
+    MPHEAP_BAD_NUMBER = 100,      /* a slot, register, global or number of helpers is out of range; or shares stand where none may, or
+                                     not where they have to */
     MPHEAP_BAD_PAGES = 101,       /* 0 pages, or more than the open allows */
     MPHEAP_NO_MEMORY = 102,       /* memory was refused; nothing is left of the attempt */
     MPHEAP_SECOND = 103,          /* this process has a mapped heap already */
@@ -311,6 +312,78 @@ uint32_t mpheap_retrace_beside(mpheap *heap, const mpheap_asked *asked, uint64_t
 /* The same of this page, page 0 being the one at MPHEAP_FIRST_ADDRESS: if it is dirty it is read again, and on it nobody writes such a
  * word. *count becomes 1, or 0 where it is not dirty; a page that the heap has not got is not. */
 uint32_t mpheap_retrace_page_beside(mpheap *heap, uint32_t page, const mpheap_asked *asked, uint64_t *count);
+
+/* ---- Marking by several threads ----
+ *
+ * A round: all that waits to be read is dealt to helpers, C's own threads call mpheap_help side by side, and what they did is gathered.
+ * From mpheap_share to mpheap_gather the heap is lent: its handle is closed, no call is made on it, and no word of it is written.
+ *
+ * A handle of shares is opened once, for as many rounds as one likes, and has a place in which shares of a round stand, or none.
+ * mpheap_share puts all shares of a round into one place, in a row; mpheap_hire takes the last one out, to another place for another
+ * thread; mpheap_join takes shares back behind those that stand there, so in the reverse order; and mpheap_gather wants all of them.
+ * A place from which the last one went, too, isn't empty: the round is known there, and they may come back.
+ *
+ * Each of these calls but mpheap_help is made by one thread at a time, on a stack of 1 MB or more. mpheap_help may run on several
+ * threads at once, each with a handle of its own; what was written before a handle comes to another thread has to be seen there, as by a
+ * lock. Memory is asked for by the open (some 100 bytes), by mpheap_share (some hundred KB for each helper, and some 32 bytes for each
+ * page that was ever used), by mpheap_hire (some 10 KB), and perhaps by mpheap_join; mpheap_help and mpheap_gather ask for none.
+ *
+ * Besides, as with heaps: a handle begins as MPHEAP_NO_SHARES, and is not copied; an open one is not opened again; and each other call is made
+ * on handles that are open, and two of one call are two. */
+typedef struct mpheap_shares {
+    void *at;
+} mpheap_shares;
+#define MPHEAP_NO_SHARES { 0 }
+enum { MPHEAP_MAX_HELPERS = 8 };
+
+/* Makes a place in which no shares stand. NO_MEMORY: *some stays closed. */
+uint32_t mpheap_shares_open(mpheap_shares *some);
+
+/* Frees the place; *some is then closed. Shares that stand there are dropped. Their round can't be gathered any more, and with the last
+ * shares of it that are dropped the heap goes that was lent. */
+void mpheap_shares_close(mpheap_shares *some);
+
+/* All that waits to be read is dealt to so many helpers: their shares stand in *all, and *heap is closed. BAD_NUMBER: 0 helpers, or more
+ * than MPHEAP_MAX_HELPERS, or *all isn't empty; WRONG_PHASE: no cycle is marking; NO_MEMORY. Refused, nothing has changed. */
+uint32_t mpheap_share(mpheap *heap, uint8_t helpers, mpheap_shares *all);
+
+/* The last share of *all goes to *one. BAD_NUMBER: *one isn't empty, or *all is; NO_MEMORY; BAD_NUMBER: all shares of *all are out. Refused,
+ * nothing has changed. */
+uint32_t mpheap_hire(mpheap_shares *all, mpheap_shares *one);
+
+/* The work of the shares that stand there: what was dealt to each is read, and what that leads to. It marks as it goes, and of the objects
+ * that it was the first to mark each share reads at most `most` words: one that is larger than what is left of these, or finds no room
+ * on the helper's stack, is left to its pages, which become dirty. Answers how many words of such objects it read. Those of entries and
+ * pages that were dealt are read however many they are, and counted neither there nor against `most`. Where no shares stand, or all
+ * are done, it does nothing, and answers 0. */
+uint64_t mpheap_help(mpheap_shares *some, uint64_t most);
+
+/* The shares of *one come back behind those of *all, and *one is empty. Both are of one round: nothing checks this. BAD_NUMBER: one of the two
+ * is empty, or they aren't the next behind those of *all, since another one was hired later and is still out, or memory was refused. Then
+ * nothing has changed. */
+uint32_t mpheap_join(mpheap_shares *all, mpheap_shares *one);
+
+/* What the helpers of a round did is put together: *heap, which is closed, is open again, and *all empty. Shares whose work wasn't done
+ * are done here, however much it is. No entry is left then, and the dirty pages are those that newly marked objects lie on which weren't
+ * read: mpheap_mark and mpheap_finish go on from there, or another mpheap_share. BAD_NUMBER: *all is empty, or another place has still
+ * shares of the round. Then *heap stays closed, and nothing is lost. */
+uint32_t mpheap_gather(mpheap_shares *all, mpheap *heap);
+
+/* ---- Memory that the caller lends ----
+ *
+ * The calls of a thread that ask for memory ask malloc for it, but while the thread uses memory that was lent: then they ask for that alone,
+ * and neither malloc nor the system. So no lock is taken, which a stopped thread may have. */
+
+/* So many bytes, at least 4,096, at an address that is divisible by 16 are made ready to be used: all of them are free. Nothing is read
+ * there. To be called again only where nothing of the memory is in use. */
+void mpheap_lend_memory(void *at, size_t bytes);
+
+/* From now on the calls of this thread use the memory that begins there, and was made ready; or, where `at` is null, malloc again. Where it
+ * has no room, NO_MEMORY. What they give back goes where it came from: what malloc gave before is freed when this is called with null. So
+ * what came from lent memory has to be given back while it is used: that is, after a mpheap_shares_open, mpheap_share, hire, join or gather
+ * under it, so are all further ones of these on that handle and for that heap, the mpheap_shares_close, and the mpheap_close. Threads use
+ * one memory one at a time, as they use a heap. */
+void mpheap_use_memory(void *at);
 
 /* Tells that the word at an address will be written by a pointer: its page becomes dirty. An address outside of the heap is
  * ignored. */

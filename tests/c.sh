@@ -111,7 +111,9 @@ programs_run() {
     works "links" compile links c99 tests/c/links.c "${flags[@]}"
     works "mapped" compile mapped gnu99 tests/c/mapped.c "${flags[@]}"
     works "limits" compile limits gnu99 tests/c/limits.c "${flags[@]}"
+    works "lent" compile lent c99 tests/c/lent.c "${flags[@]}"
     works "partial" compile partial c99 tests/c/partial.c "${flags[@]}"
+    works "shares" compile shares c99 tests/c/shares.c -pthread "${flags[@]}"
     works "writes" compile writes c99 tests/c/writes.c "${flags[@]}"
     works "script" compile script c99 tests/c/script.c "${flags[@]}"
     prints examples/c/hello.expected "$room/hello"
@@ -122,13 +124,16 @@ programs_run() {
     counts_well "$room/links"
     counts_well "$room/mapped"
     counts_well "$room/limits"
+    counts_well "$room/lent"
     counts_well "$room/partial"
+    counts_well "$room/shares"
 }
 
 # Each request of an open is refused in turn: c/memory.c with its requests renamed, under the sanitizers.
 memory_is_refused() {
     works "refused" cc -std=c11 "${warnings[@]}" "${sanitizers[@]}" -include "$top/tests/c/refused.h" -c "$top/c/memory.c" -o "$room/refused.o"
-    works "refused" cc -std=c11 "${warnings[@]}" "${sanitizers[@]}" "$top/tests/c/refused.c" "$room/refused.o" "$crate/out/libmpheap_c.a" -o "$room/refused"
+    works "refused" cc -std=c11 "${warnings[@]}" "${sanitizers[@]}" "$top/tests/c/refused.c" "$room/refused.o" "$top/c/lent.c" "$crate/out/libmpheap_c.a" \
+        -o "$room/refused"
     counts_well "$room/refused"
 }
 
