@@ -41,6 +41,7 @@ static void end_with_roots(void)
 static void collect(void)
 {
     if (mpgc.is_marking) end_with_roots();
+    mpgc.is_marking = false;
     GRANTED(mpheap_begin(&mpgc.heap));
     end_with_roots();
 }
@@ -51,6 +52,7 @@ static bool collect_fully(void *unused)
     sigset_t old;
     if (mpgc_holds_threads_back()) mpgc_leave_open();
     mpgc_tell_start();
+    mpgc_call_markers();
     double start = mpgc_now();
     mpgc_block_signals(&old);
     mpgc_stop_world();

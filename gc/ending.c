@@ -22,17 +22,28 @@ bool mpgc_is_marked(uintptr_t base)
     return answer;
 }
 
-// All that the stack holds and dirty pages have is marked, with all that it leads to. The words that are read are counted, to pace by: of a
-// dirty page all, since it has objects that found no room on the core's mark stack, but for the few that the program has written last.
-void mpgc_mark_words(void)
+// Of what waits to be read and dirty pages have is marked what it leads to, of so many words. Answers whether there may be more. The words
+// that are read are counted, to pace by: of a dirty page all, since it has objects that found no room on the core's mark stack, but for the
+// few that the program has written last.
+static bool mark_some(uint64_t most)
 {
     uint64_t read, was_dirty = 1;
-    GRANTED(mpheap_roots(&mpgc.heap));
     while (was_dirty == 1) {
-        GRANTED(mpheap_mark(&mpgc.heap, UINT64_MAX, &read));
+        GRANTED(mpheap_mark(&mpgc.heap, most, &read));
+        mpgc_figures.marked += read;
+        if (read == most) return true;
         GRANTED(mpheap_retrace(&mpgc.heap, &was_dirty));
-        mpgc_figures.marked += read + was_dirty * (PAGE / WORD);
+        mpgc_figures.marked += was_dirty * (PAGE / WORD);
+        most -= read;
     }
+    return false;
+}
+
+// All that the stack holds and dirty pages have is marked, with all that it leads to: by this thread, or by the markers too, where it is much.
+void mpgc_mark_words(void)
+{
+    GRANTED(mpheap_roots(&mpgc.heap));
+    for (uint64_t alone = mpgc_begin_rounds(); mark_some(alone);) alone = mpgc_mark_in_rounds();
 }
 
 // The same, with what the words of described objects lead to. Then the stack is empty.

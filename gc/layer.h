@@ -1,7 +1,7 @@
 // What the audited files of libmpgc know of each other. x86-64, Linux, the GNU C library. Trusted, and not proved.
 //
 // Below them stands the proved heap of mpheap_c, above them a C program that knows bdwgc's gc.h, and may do what it likes. The proofs hold
-// for the program as far as these files keep what mpheap.h asks of a caller. They alone could lose an object or break memory: 2,688 lines
+// for the program as far as these files keep what mpheap.h asks of a caller. They alone could lose an object or break memory: 2,936 lines
 // of code in this folder, without blank ones and comments. Why names/ and kernel/ can't is said in front.h. This is all that they owe, in
 // the order in which they are best read, and the head of each says by which lines it pays:
 //
@@ -19,6 +19,7 @@
 //   roots.c threads.c      what keeps it: every word by which the program may still reach an object is a root at a collection's end,
 //   locals.c               of each thread
 //   collect.c cycle.c      the core's calls in an order that keeps the last three
+//   markers.c rounds.c     the calls of several threads that mark, while the world is stopped
 //   ending.c described.c   of objects that the core doesn't read, each word that points is a root at a cycle's end
 //   readings.c
 //   links.c                the layer's own writes to words of the program: in kept objects alone
@@ -299,6 +300,23 @@ extern int __sigaction(int number, const struct sigaction *next, struct sigactio
 HIDDEN void mpgc_take_faults(void);
 HIDDEN void mpgc_block_signals(sigset_t *old);
 HIDDEN void mpgc_restore_signals(const sigset_t *old);
+
+// Counted under marking side by side.
+// markers.c and rounds.c. Workers have numbers: the first marker, the thread that collects, and the other markers.
+enum { FIRST_MARKER, COLLECTING };
+HIDDEN void mpgc_call_markers(void);
+HIDDEN unsigned mpgc_markers(void);
+HIDDEN void mpgc_tell(unsigned which);
+HIDDEN void mpgc_await(unsigned which);
+HIDDEN void mpgc_await_telling(unsigned which);
+HIDDEN void mpgc_has_done(unsigned which);
+HIDDEN void mpgc_open_shares(void);
+HIDDEN void mpgc_forget_shares(void);
+HIDDEN void mpgc_work(unsigned which);
+HIDDEN void mpgc_dismiss_markers(void);
+HIDDEN void mpgc_lose_markers(void);
+HIDDEN uint64_t mpgc_begin_rounds(void);
+HIDDEN uint64_t mpgc_mark_in_rounds(void);
 
 // Counted under roots, links, finalizers and kinds.
 // roots.c

@@ -101,6 +101,7 @@ static void be_threaded(void)
     if (mpgc.is_threaded) return;
     mpgc_become_threaded();
     mpgc_make_stoppable();
+    mpgc_will_be_threaded();
 }
 
 // A thread that nobody told of.
@@ -161,6 +162,7 @@ static void forget(struct thread *self)
     mpgc_drop_pins(self);
     unlink_if_over(self);
     (void)mpgc_wake_collector(false);
+    if (mpgc_is_last_thread()) mpgc_dismiss_markers();
     mpgc_unlock();
 }
 
@@ -390,6 +392,7 @@ static void in_child(void)
     struct thread *one = mpgc.threads;
     mpgc_lock_in_child();
     mpgc_lose_collector();
+    mpgc_lose_markers();
     if (mpgc_self) mpgc_self->number = mpgc_my_number();
     while (one) {
         struct thread *next = one->next;

@@ -75,7 +75,7 @@ if command -v clang >"$room/said"; then CC=clang build "$room/clang"; else skip 
 
 # Each function, each place of roots, and what stands round the barrier.
 for test in functions settings macros limits links frees leaks unmapped finalizers kinds roots barrier crowded kernel signals moments process shadow \
-    threads world registering together collector stacks; do
+    threads world registering together collector marking stacks; do
     "${c[@]}" "$top/tests/gc/$test.c" "-L$room" -lmpgc "-Wl,-rpath,$room" -pthread -o "$room/$test" 2>"$room/said"
     is "$test is built" "" "$(cat "$room/said")"
 done
@@ -133,9 +133,11 @@ fi
 
 # The collector's own thread: what it has to stand, and the tests above that have something to do for it.
 counted collector "$room/collector" 1
-"${c[@]}" -fPIC "-I$include" -c "$top/tests/gc/checking_core.c" -o "$room/checking_core.o" 2>"$room/said"
-is "a core that checks what is owed is built" "" "$(cat "$room/said")"
-ar rcs "$room/checking_core.a" "$room/checking_core.o"
+for file in tests/gc/checking_core c/lent; do
+    "${c[@]}" -fPIC "-I$include" -c "$top/$file.c" -o "$room/$(basename $file).o" 2>"$room/said"
+    is "$file, of a core that checks what is owed, is built" "" "$(cat "$room/said")"
+done
+ar rcs "$room/checking_core.a" "$room/checking_core.o" "$room/lent.o"
 MPHEAP_ARCHIVE=$room/checking_core.a build "$room/checking"
 counted "collector, over a core that checks what is owed" env "LD_LIBRARY_PATH=$room/checking" "$room/collector" 1
 for test in functions settings links finalizers kinds registering roots barrier kernel; do
@@ -148,6 +150,18 @@ if command -v objdump >"$room/said"; then
 else
     skip objdump "how the library's code reads words of the heap"
 fi
+
+# Full collections by several threads that mark, over the library and over that core, which refuses each so manieth request for memory too.
+# What is seen is the same by each number of them.
+for core in "$room" "$room/checking"; do
+    for markers in 1 2 4 8; do
+        counted "marking by $markers, $(basename "$core")" env "LD_LIBRARY_PATH=$core" "SAYS=$core/seen_by_$markers" GC_MARKERS=$markers "$room/marking"
+        is "what is seen by $markers, $(basename "$core")" "$(cat "$core/seen_by_1")" "$(cat "$core/seen_by_$markers")"
+    done
+done
+for refused in 1 2 3 5 7 29; do
+    counted "marking, each ${refused}th request refused" env "LD_LIBRARY_PATH=$room/checking" CORE_REFUSES=$refused GC_MARKERS=4 "$room/marking"
+done
 
 # Threads, each with lists and a shadow of them; some seconds, or as many as GC_SECONDS says.
 for setting in FULL INCREMENTAL GC_COLLECTOR_THREAD; do

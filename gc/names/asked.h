@@ -11,7 +11,7 @@ struct figures {
     uint64_t roots;                // and of roots: bytes
     size_t entries, most_entries;  // of all tables (table.c), and past how many a request looks what is due
     size_t limit;                  // the most pages that the program lets the heap have
-    unsigned long cycles, full, faults, retraces;
+    unsigned long cycles, full, faults, retraces, rounds;
     double longest_cycle_end, longest_full, full_time;  // microseconds
     unsigned long stops;                                // of other threads, with what their stopping took
     double longest_stop, stop_time, longest_standing;    // the last: from the request to the going on
@@ -38,6 +38,11 @@ HIDDEN double mpgc_now(void);
 HIDDEN void mpgc_count_collection(bool is_full, double start);
 HIDDEN void mpgc_count_stop(double took);
 HIDDEN void mpgc_count_standing(double took);
+
+// parallel.c. How many threads are to mark, and have come beside the one that collects; and that the program has a second thread.
+HIDDEN unsigned mpgc_wanted_markers(void);
+HIDDEN void mpgc_count_markers(unsigned count);
+HIDDEN void mpgc_will_be_threaded(void);
 
 // environment.c
 HIDDEN void mpgc_read_environment(void);

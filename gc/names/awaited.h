@@ -30,6 +30,9 @@ HIDDEN bool mpgc_give_back_some(void);
 HIDDEN void mpgc_unmap(bool is_asked);
 HIDDEN void mpgc_read_unmapping(void);
 
+// parallel.c
+HIDDEN void mpgc_read_markers(void);
+
 // others.c
 SHOWN void GC_enumerate_reachable_objects_inner(void (*tell)(void *object, size_t bytes, void *data), void *data);
 

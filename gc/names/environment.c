@@ -26,6 +26,7 @@ static void print_figures(void)
     if (all->stops) fprintf(stderr, "mpgc: %lu stops of other threads, %.0f us each until the last one stood, at most %.0f us; "
                             "at most %.0f us until they went on\n", all->stops, all->stop_time / (double)all->stops, all->longest_stop,
                             all->longest_standing);
+    if (all->rounds) fprintf(stderr, "mpgc: %lu rounds of marking by %d threads\n", all->rounds, GC_get_parallel() + 1);
 }
 
 // The heap has just been opened.
@@ -36,6 +37,7 @@ void mpgc_read_environment(void)
     if (least) GC_expand_hp(least);
     GC_free_space_divisor = bytes_of("GC_FREE_SPACE_DIVISOR", GC_free_space_divisor);
     mpgc_read_unmapping();
+    mpgc_read_markers();
     if (getenv("GC_DONT_GC")) GC_dont_gc = 1;
     if (getenv("GC_FIND_LEAK")) GC_set_find_leak(1);
     if (GC_find_leak) mpgc_look_at_exit();

@@ -85,7 +85,7 @@ size_t GC_get_prof_stats_unsafe(struct GC_prof_stats_s *stats, size_t bytes)
     struct GC_prof_stats_s all = {
         .heapsize_full = mpgc_pages() * PAGE, .free_bytes_full = GC_get_free_bytes() + GC_get_unmapped_bytes(),
         .unmapped_bytes = GC_get_unmapped_bytes(),
-        .bytes_allocd_since_gc = GC_get_bytes_since_gc(), .allocd_bytes_before_gc = GC_get_total_bytes() - GC_get_bytes_since_gc(),
+        .markers_m1 = (GC_word)GC_get_parallel(), .bytes_allocd_since_gc = GC_get_bytes_since_gc(), .allocd_bytes_before_gc = GC_get_total_bytes() - GC_get_bytes_since_gc(),
         .non_gc_bytes = GC_get_non_gc_bytes(), .gc_no = GC_get_gc_no(), .expl_freed_bytes_since_gc = GC_get_expl_freed_bytes_since_gc(),
         .obtained_from_os_bytes = GC_get_obtained_from_os_bytes(),
     };

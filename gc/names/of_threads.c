@@ -58,8 +58,3 @@ SHOWN void GC_set_on_thread_event(void *tell);
 void GC_set_on_thread_event(void *tell) { tell_of_thread = tell; }
 SHOWN void *GC_get_on_thread_event(void);
 void *GC_get_on_thread_event(void) { return tell_of_thread; }
-
-// One thread marks at a time, so none besides it: whatever a program asks for, before the start or later.
-int GC_get_parallel(void) { return 0; }
-void GC_set_markers_count(unsigned count) { (void)count; }
-void GC_start_mark_threads(void) { }

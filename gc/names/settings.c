@@ -1,7 +1,7 @@
 // What a program sets, and is given back: variables of gc.h, and their calls. What the stack is, and calls of functions.
 #include "locked.h"
 
-// The variables that bdwgc lets a program read, and write before the first request; roots.c, requests.c, told.c and figures.c have others.
+// The variables that bdwgc lets a program read, and write before the first request; roots.c, requests.c, told.c, figures.c and parallel.c have others.
 int GC_dont_gc;
 int GC_dont_expand;
 int GC_dont_precollect;
@@ -10,7 +10,6 @@ int GC_finalize_on_demand;
 int GC_java_finalization;
 int GC_use_entire_heap;
 int GC_full_freq = 19;
-int GC_parallel;
 GC_word GC_free_space_divisor = 3;
 GC_word GC_max_retries;
 unsigned long GC_time_limit = 50;

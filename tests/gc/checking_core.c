@@ -1,8 +1,10 @@
 /* A plain core in C with the calls of mpheap.h that libmpgc makes. It is as simple as can be, and checks what a caller owes where words are
  * written by pointers: a clean page is one whose words were read, or needn't be, so the words of ordinary objects on it are kept in mind
  * when it becomes clean, and compared with what stands there before and behind each step beside writers, some pages at a time, and all at a
- * cycle's end. A page that is read again beside writers is compared when it was read. What differs was written untold: then it aborts. */
+ * cycle's end. A page that is read again beside writers is compared when it was read. What differs was written untold: then it aborts.
+ * Where several threads mark, checking_shares.h looks at what is owed there. */
 #define _GNU_SOURCE
+#include <stdatomic.h>
 #include <stdio.h>
 #include <stdlib.h>
 #include <string.h>
@@ -36,6 +38,12 @@ static void wrong(const char *what, uint64_t address)
     abort();
 }
 
+/* From mpheap_share to mpheap_gather the heap is lent. */
+static void is_open(const mpheap *heap)
+{
+    if (!heap->core) wrong("a call on a heap that is lent", 0);
+}
+
 static void *room_for(size_t bytes)
 {
     void *at = mmap(NULL, bytes, PROT_READ | PROT_WRITE, MAP_PRIVATE | MAP_ANONYMOUS | MAP_NORESERVE, -1, 0);
@@ -67,7 +75,7 @@ uint32_t mpheap_open_mapped_with(uint32_t count, uint64_t words, mpheap *heap)
 
 uint32_t mpheap_attach(mpheap *heap, uint8_t *slot)
 {
-    (void)heap;
+    is_open(heap);
     for (*slot = 0; *slot < MPHEAP_SLOTS && mutators[*slot].is_there; ++*slot) continue;
     if (*slot == MPHEAP_SLOTS) return MPHEAP_NO_SLOT;
     memset(&mutators[*slot], 0, sizeof mutators[*slot]);
@@ -77,21 +85,21 @@ uint32_t mpheap_attach(mpheap *heap, uint8_t *slot)
 
 uint32_t mpheap_detach(mpheap *heap, uint8_t slot)
 {
-    (void)heap;
+    is_open(heap);
     mutators[slot].is_there = false;
     return MPHEAP_OK;
 }
 
 uint32_t mpheap_set(mpheap *heap, uint8_t slot, uint8_t into, uint64_t number)
 {
-    (void)heap;
+    is_open(heap);
     mutators[slot].registers[into] = number;
     return MPHEAP_OK;
 }
 
 uint32_t mpheap_push(mpheap *heap, uint8_t slot, uint8_t from)
 {
-    (void)heap;
+    is_open(heap);
     if (mutators[slot].depth == MPHEAP_STACK_WORDS) return MPHEAP_STACK_FULL;
     mutators[slot].stack[mutators[slot].depth++] = mutators[slot].registers[from];
     return MPHEAP_OK;
@@ -112,7 +120,7 @@ static bool find(uint64_t word, uint64_t *base, uint64_t *words)
 
 uint32_t mpheap_kept_at(mpheap *heap, uint64_t word, uint64_t *base, uint64_t *words)
 {
-    (void)heap;
+    is_open(heap);
     return find(word, base, words) ? MPHEAP_OK : MPHEAP_NO_OBJECT;
 }
 
@@ -172,25 +180,25 @@ static uint32_t ask_many(uint8_t slot, uint8_t into, uint64_t words, uint64_t *b
 
 uint32_t mpheap_alloc_base(mpheap *heap, uint8_t slot, uint8_t into, uint64_t words, uint64_t *base)
 {
-    (void)heap;
+    is_open(heap);
     return ask(slot, into, words, base, 0);
 }
 
 uint32_t mpheap_alloc_pointer_free_base(mpheap *heap, uint8_t slot, uint8_t into, uint64_t words, uint64_t *base)
 {
-    (void)heap;
+    is_open(heap);
     return ask(slot, into, words, base, 1);
 }
 
 uint32_t mpheap_alloc_many(mpheap *heap, uint8_t slot, uint8_t into, uint64_t words, uint64_t *bases, size_t most, uint64_t *count)
 {
-    (void)heap;
+    is_open(heap);
     return ask_many(slot, into, words, bases, most, count, 0);
 }
 
 uint32_t mpheap_alloc_pointer_free_many(mpheap *heap, uint8_t slot, uint8_t into, uint64_t words, uint64_t *bases, size_t most, uint64_t *count)
 {
-    (void)heap;
+    is_open(heap);
     return ask_many(slot, into, words, bases, most, count, 1);
 }
 
@@ -213,7 +221,7 @@ static void forget(uint64_t base)
 uint32_t mpheap_free(mpheap *heap, uint8_t slot, uint8_t from)
 {
     uint64_t base, words, word = mutators[slot].registers[from];
-    (void)heap;
+    is_open(heap);
     if (!find(word, &base, &words)) return MPHEAP_NO_OBJECT;
     if (base != word) return MPHEAP_NOT_BASE;
     forget(base);
@@ -296,7 +304,7 @@ static uint64_t retrace(void)
 
 uint32_t mpheap_begin(mpheap *heap)
 {
-    (void)heap;
+    is_open(heap);
     if (is_marking) return MPHEAP_WRONG_PHASE;
     is_marking = true;
     depth = 0;
@@ -307,7 +315,7 @@ uint32_t mpheap_begin(mpheap *heap)
 
 uint32_t mpheap_roots(mpheap *heap)
 {
-    (void)heap;
+    is_open(heap);
     if (!is_marking) return MPHEAP_WRONG_PHASE;
     for (int slot = 0; slot < MPHEAP_SLOTS; slot++) {
         if (!mutators[slot].is_there) continue;
@@ -319,7 +327,7 @@ uint32_t mpheap_roots(mpheap *heap)
 
 uint32_t mpheap_mark(mpheap *heap, uint64_t most, uint64_t *count)
 {
-    (void)heap;
+    is_open(heap);
     if (!is_marking) return MPHEAP_WRONG_PHASE;
     check_some("a clean page was written before a step");
     *count = mark(most);
@@ -336,7 +344,7 @@ uint32_t mpheap_mark_beside(mpheap *heap, uint64_t most, const mpheap_asked *ask
 
 uint32_t mpheap_retrace(mpheap *heap, uint64_t *count)
 {
-    (void)heap;
+    is_open(heap);
     if (!is_marking) return MPHEAP_WRONG_PHASE;
     *count = retrace();
     return MPHEAP_OK;
@@ -350,7 +358,7 @@ uint32_t mpheap_retrace_beside(mpheap *heap, const mpheap_asked *asked, uint64_t
 
 uint32_t mpheap_retrace_page_beside(mpheap *heap, uint32_t page, const mpheap_asked *asked, uint64_t *count)
 {
-    (void)heap;
+    is_open(heap);
     (void)asked;
     if (!is_marking) return MPHEAP_WRONG_PHASE;
     *count = retrace_page(page);
@@ -375,6 +383,7 @@ static uint64_t take_unmarked(uint64_t page)
 
 uint32_t mpheap_finish(mpheap *heap, uint64_t *count)
 {
+    is_open(heap);
     if (mpheap_roots(heap) != MPHEAP_OK) return MPHEAP_WRONG_PHASE;
     for (uint64_t page = 0; page < used; page++) check(page, "a clean page was written before a cycle's end");
     do mark(UINT64_MAX);
@@ -388,42 +397,42 @@ uint32_t mpheap_finish(mpheap *heap, uint64_t *count)
 
 uint32_t mpheap_sweep(mpheap *heap, uint64_t *count)
 {
-    (void)heap;
+    is_open(heap);
     *count = 0;
     return MPHEAP_OK;
 }
 
 uint64_t mpheap_gc_no(mpheap *heap)
 {
-    (void)heap;
+    is_open(heap);
     return ended;
 }
 
 bool mpheap_is_marked(mpheap *heap, uint64_t base)
 {
     uint64_t found, words;
-    (void)heap;
+    is_open(heap);
     return find(base, &found, &words) && found == base && is_marked[granule_of(base)];
 }
 
 uint32_t mpheap_free_pages(mpheap *heap)
 {
     uint64_t count = all - used;
-    (void)heap;
+    is_open(heap);
     for (uint64_t page = 0; page < used; page++) count += pages[page].use == FREE;
     return (uint32_t)count;
 }
 
 uint32_t mpheap_used_pages(mpheap *heap)
 {
-    (void)heap;
+    is_open(heap);
     return (uint32_t)used;
 }
 
 bool mpheap_free_run(mpheap *heap, uint32_t from, uint32_t *first, uint32_t *count)
 {
     uint64_t page = from, end;
-    (void)heap;
+    is_open(heap);
     while (page < all && pages[page].use != FREE) page++;
     for (end = page; end < all && pages[end].use == FREE; end++) continue;
     *first = (uint32_t)page;
@@ -434,19 +443,21 @@ bool mpheap_free_run(mpheap *heap, uint32_t from, uint32_t *first, uint32_t *cou
 uint32_t mpheap_dirty_pages(mpheap *heap)
 {
     uint32_t count = 0;
-    (void)heap;
+    is_open(heap);
     for (uint64_t page = 0; page < used; page++) count += pages[page].is_dirty;
     return count;
 }
 
 uint32_t mpheap_pending_pages(mpheap *heap)
 {
-    (void)heap;
+    is_open(heap);
     return 0;
 }
 
 void mpheap_written(mpheap *heap, uint64_t address)
 {
-    (void)heap;
+    is_open(heap);
     if (address >= FIRST && page_of(address) < all) pages[page_of(address)].is_dirty = 1;
 }
+
+#include "checking_shares.h"

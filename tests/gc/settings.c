@@ -294,32 +294,64 @@ static NOINLINE void stops(void)
 }
 #endif
 
-/* How many threads mark besides the one that collects: of libmpgc none, whoever asks for them, and of bdwgc as many as it was told of. */
+/* How many threads mark besides the one that collects: as the environment says, else the program before its first request, else the number
+ * of processors that it says; more than there may be are as many as may be. There are none before the program may have a second thread. */
 extern int GC_parallel, GC_get_parallel(void);
 extern void GC_set_markers_count(unsigned count), GC_allow_register_threads(void), GC_start_mark_threads(void);
+#ifdef OTHER
+enum { MOST_MARKERS = 16 };
+#else
+enum { MOST_MARKERS = 8 };
+#endif
+static const char *by_environment, *by_processors;
+static unsigned by_program;
+static int are_markers, starts;
+
 static int markers(void)
 {
     struct GC_prof_stats_s stats;
-#ifdef OTHER
-    enum { WANTED = 2 };
-#else
-    enum { WANTED = 0 };
-#endif
-    setenv("GC_MARKERS", "3", 1);
-    GC_set_markers_count(3);
+    unsetenv("GC_MARKERS");
+    if (by_environment) setenv("GC_MARKERS", by_environment, 1);
+    if (by_processors) setenv("GC_NPROCS", by_processors, 1);
+    if (by_program) GC_set_markers_count(by_program);
     GC_INIT();
     CHECK(GC_get_parallel() == 0);
-    GC_allow_register_threads();
-    GC_start_mark_threads();
+    if (starts) GC_start_mark_threads();
+    else GC_allow_register_threads();
     GC_gcollect();
     GC_get_prof_stats(&stats, sizeof stats);
-    CHECK(GC_get_parallel() == WANTED && GC_parallel == WANTED && stats.markers_m1 == WANTED);
+    CHECK(GC_get_parallel() == are_markers - 1 && GC_parallel == are_markers - 1 && stats.markers_m1 == (GC_word)(are_markers - 1));
     return failed != 0;
+}
+
+static void has_markers(const char *environment, unsigned program, const char *processors, int wanted)
+{
+    by_environment = environment;
+    by_program = program;
+    by_processors = processors;
+    are_markers = wanted;
+    starts = !starts;
+    CHECK(status_of(markers) == 0);
+}
+
+static void all_markers(void)
+{
+    has_markers("3", 0, NULL, 3);
+    has_markers("3", 5, "2", 3);
+    has_markers("1", 5, NULL, 1);
+    has_markers(NULL, 5, "2", 5);
+    has_markers(NULL, 1, NULL, 1);
+    has_markers(NULL, 0, "2", 2);
+    has_markers(NULL, 0, "1", 1);
+    has_markers("0", 0, NULL, MOST_MARKERS);
+    has_markers("99", 0, NULL, MOST_MARKERS);
+    has_markers("some", 0, NULL, MOST_MARKERS);
+    has_markers(NULL, 99, NULL, MOST_MARKERS);
 }
 
 int main(void)
 {
-    CHECK(status_of(markers) == 0);
+    all_markers();
     GC_INIT();
     callbacks();
     figures();

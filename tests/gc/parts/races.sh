@@ -9,7 +9,7 @@ if printf '#ifndef __SANITIZE_THREAD__\n#error another one\n#endif\nint main(voi
     for file in syscalls syscalls_threads; do
         cc -std=c11 -O1 -fvisibility=hidden "${races[@]}" -c "$top/gc/kernel/$file.c" -o "$room/races/$file.o"
     done
-    for test in threads together collector finalizers; do
+    for test in threads together collector marking finalizers; do
         "${c[@]}" "${races[@]}" "$top/tests/gc/$test.c" "$room"/races/syscalls*.o "$room/races/libmpgc.a" -pthread -o "$room/races/$test" \
             2>"$room/said"
         is "$test is built to look for races" "" "$(cat "$room/said")"
@@ -20,6 +20,7 @@ if printf '#ifndef __SANITIZE_THREAD__\n#error another one\n#endif\nint main(voi
         counted "races of together, $setting" env $setting=1 "$room/races/together" 4 3
     done
     counted "races of collector" "$room/races/collector" 1
+    counted "races of marking" env GC_MARKERS=4 "$room/races/marking" 2
     counted "races of finalizers, beside the collector's thread" env GC_COLLECTOR_THREAD=1 "$room/races/finalizers"
     unset TSAN_OPTIONS
 else

@@ -1,0 +1,121 @@
+// Marking in rounds, by the markers and the thread that collects: what waits to be read is dealt, each reads its share, and what they did is
+// gathered. Trusted, not proved.
+//
+// What it owes the core, of mpheap.h:
+//
+//   "From mpheap_share to mpheap_gather .. no call       no other thread runs, and this one is in the middle of a call
+//   is made on it, and no word of it is written"
+//   "on a stack of 1 MB or more"                         the first marker makes all these calls, and the collecting thread mpheap_help alone
+//   "each with a handle of its own"                      `shares`, by the number of the worker
+//   "on handles that are open"                           the first `opened` of these: no worker of a higher number has work
+//   "of one round"                                       there is one heap, and `lead` gathers what it dealt
+//   what is left: "no entry", and "dirty pages"          ending.c reads these behind the last round, as it would without one
+//
+// What hangs from one entry is read by one helper. So a round is short, and what is left then lies on pages, which the next one deals anew.
+// Where one helper did most of it, as with a long list, the collecting thread goes on alone for longer and longer.
+// Counted under marking side by side.
+#include "layer.h"
+
+// Words: that are marked alone before a round, so that nobody is woken for less; and that each helper reads in one. And pages: where
+// fewer are left dirty, another round isn't worth it.
+enum { ALONE = 1 << 16, ROUND = 1 << 20, MANY_PAGES = 64, LONGER = 4 };
+
+static mpheap_shares shares[MPHEAP_MAX_HELPERS];  // all stand at the first marker's, out of which the others come
+static _Atomic unsigned opened;
+static uint64_t has_read[MPHEAP_MAX_HELPERS];  // words, in this round
+static unsigned helpers;
+static bool is_shared;
+
+// By the first marker, in whose memory they stay open. Where that has no more, there are fewer helpers.
+void mpgc_open_shares(void)
+{
+    while (opened < MPHEAP_MAX_HELPERS && mpheap_shares_open(&shares[opened]) == MPHEAP_OK) opened++;
+}
+
+// In a child, with the memory in which they are.
+void mpgc_forget_shares(void)
+{
+    for (opened = MPHEAP_MAX_HELPERS; opened > 0;) shares[--opened] = (mpheap_shares)MPHEAP_NO_SHARES;
+}
+
+static void must(uint32_t status, const char *sentence)
+{
+    if (status != MPHEAP_OK) mpgc_stop(sentence);
+}
+
+static void help(unsigned which) { has_read[which] = mpheap_help(&shares[which], ROUND); }
+
+// The first marker has what comes before and behind. Where memory is refused there are fewer shares, or none.
+static void lead(void)
+{
+    unsigned first = helpers;
+    is_shared = mpheap_share(&mpgc.heap, (uint8_t)helpers, &shares[0]) == MPHEAP_OK;
+    while (is_shared && first > 1 && mpheap_hire(&shares[0], &shares[first - 1]) == MPHEAP_OK) first--;
+    for (unsigned which = 1; which < helpers; which++) mpgc_tell(which);
+    help(0);
+    for (unsigned which = 1; which < helpers; which++) mpgc_await(which);
+    for (; first < helpers; first++) must(mpheap_join(&shares[0], &shares[first]), "the heap refused mpheap_join");
+    if (is_shared) must(mpheap_gather(&shares[0], &mpgc.heap), "the heap refused mpheap_gather");
+}
+
+// What a marker does when it is told to.
+void mpgc_work(unsigned which)
+{
+    if (which == FIRST_MARKER)
+        lead();
+    else
+        help(which);
+}
+
+static void make_round(void)
+{
+    mpgc_call_begins();
+    mpgc_tell(FIRST_MARKER);
+    mpgc_await_telling(COLLECTING);
+    help(COLLECTING);
+    mpgc_has_done(COLLECTING);
+    mpgc_await(FIRST_MARKER);
+    mpgc_call_ends();
+    mpgc_figures.rounds += is_shared;
+}
+
+static uint64_t alone;
+
+// Much may be to be marked. Answers how many words are to be marked alone first: all, where there are no markers, or a cycle ends that has
+// marked in small steps.
+uint64_t mpgc_begin_rounds(void)
+{
+    helpers = mpgc.is_marking ? 1 : mpgc_markers() + 1;
+    if (helpers > opened) helpers = opened;
+    alone = ALONE;
+    return helpers > 1 ? ALONE : UINT64_MAX;
+}
+
+// The words of a round are counted, to pace by: what helpers read of objects that they marked, and all of the pages that were dealt, as
+// ending.c counts them. Answers whether it paid: no helper did more than two thirds.
+static bool count_round(uint64_t dealt_pages)
+{
+    uint64_t all = 0, most = 0;
+    for (unsigned which = 0; which < helpers; which++) {
+        all += has_read[which];
+        if (has_read[which] > most) most = has_read[which];
+    }
+    mpgc_figures.marked += all + dealt_pages * (PAGE / WORD);
+    return 3 * most <= 2 * all;
+}
+
+// Rounds are made while they pay. Answers how many words are to be marked alone then, before there may be more of them.
+uint64_t mpgc_mark_in_rounds(void)
+{
+    uint64_t dirty = mpgc_dirty_pages();
+    bool pays = true, goes_on = true;
+    while (goes_on) {
+        make_round();
+        if (!is_shared) return UINT64_MAX;
+        pays = count_round(dirty);
+        dirty = mpgc_dirty_pages();
+        goes_on = pays && dirty >= MANY_PAGES;
+    }
+    alone = pays ? ALONE : alone * LONGER;
+    return alone;
+}
