@@ -3,10 +3,10 @@ use Rattle.std.proofs.Common.{◌≡◌, ℕ, zero, suc, max, ◌-◌, ◌+◌, 
 use Rattle.std.specs.Int.{bit_at}
 use Rattle.std.specs.Int.RustNames.{bit_and}
 use Rattle.std.proofs.lemmas.Bool.{cases_lt, false≢true}
-use Rattle.std.proofs.lemmas.Nat.{shr-shr}
 use Rattle.std.proofs.lemmas.Nat.Bits.{bit_at_and, bit_at-lt, bit_at-zero, bit_at_cat_low, bit_at_cat_high}
 use Rattle.words.specs.Bits.{bit, bits, HasNoBit, IsFirstBit}
 use Rattle.words.proofs.Rows.{get_or-bits}
+use Rattle.words.proofs.Scans.{bit_at_shr}
 use Rattle.pages.specs.Runs.{IsFreeRun, IsFirstFreeRunFrom, HasNoFreeRunFrom}
 use Rattle.pages.specs.Starts.{IsPair, IsStart, AreShrunk, AreStarts, IsNextPair, IsFirstStart}
 
@@ -14,9 +14,6 @@ one_of : (b : ℕ) → b < 2 → (b == 1) ≡ true → b ≡ 1
 one_of zero lt e = absurd (false≢true e)
 one_of (suc zero) lt e = refl
 one_of (suc (suc b)) lt e = absurd (omega (arith, lt))
-
-bit_at_shr : (x s i : ℕ) → bit_at (x / 2 ^ s) i ≡ bit_at x (s + i)
-bit_at_shr x s i = ap (λ y. y % 2) (shr-shr x s i)
 
 low_bit : (y i : ℕ) → i < 64 → bit_at (y % 2 ^ 64) i ≡ bit_at y i
 low_bit y i lt =

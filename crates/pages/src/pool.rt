@@ -1,5 +1,5 @@
 //! The pool of free pages, seen as the row of its pages: true is a free page.
-ghost use Rattle.std.specs.Prelude.{◌≡◌, ◌+◌, ◌%◌, ◌<◌, ◌≤◌, ◌⊎◌, true, false, length, slice_index_or, MatchOption, IfSome, IfNone};
+ghost use Rattle.std.specs.Prelude.{◌≡◌, ◌+◌, ◌%◌, ◌<◌, ◌≤◌, true, false, length, slice_index_or, MatchOption, IfSome, IfNone};
 ghost use Rattle.words.specs.declared.limits.TheConstants.{MOST_PAGES};
 ghost use Rattle.words.specs.Bits.{members, IsEmptyFrom, IsFirstClearFrom, IsFullFrom};
 ghost use Rattle.pages.specs.FreeRuns.{IsNextRun};
