@@ -73,7 +73,7 @@ module _ (p : PauseView) where
         won = λ f o m c i lt. ⊎_elim
             (λ a. ⊎_elim (λ k. inl (word_more p (view first) (view first') carried carried' left old_carried f i k)) (λ d. inr (old _ d)) (g.won f o m a i lt))
             (λ a. ⊎_elim (λ k. inl (word_more p (view h.claimer) (view first') h.carried carried' right more_carried f i k))
-            (λ w. ⊎_elim (λ d. inr (more _ d)) (λ e. absurd (none_in h.stack.items f.base s.empty e)) w) (s.serving.won f o m a i lt))
+            (λ w. ⊎_elim (λ d. inr (more _ d)) (λ e. absurd (none_in h.waiting f.base s.empty e)) w) (s.serving.won f o m a i lt))
             (of_either (granule f.base) c);
         dirtied = λ q d. ⊎_elim
             (λ a. let w = g.dirtied q a in (w.0, w.1, won_left _ w.2, w.3))
@@ -113,10 +113,10 @@ module _ {p : PauseView} (first : Claimer) (dirty carried : List Bool) (new : Ma
   read_pending : (f : Found) → found p f.base ≡ Some f → f.kind ≡ Normal → IsMarked old f.base → (i : ℕ) → i < f.len → IsLeftToEntry old f.base i → IsWordRead p (view first) carried f i
   read_pending f o n m i lt q =
       let at = entry_in old q.entry q.one in
-      let place = g.shares (at.0 % p.helpers) (omega arith) (mod-lt at.0 some) in
-      let dealt = place.dealt.entries_of at.0 q.entry at.1 (sym place.here) in
-      let read : IsEntryRead p (view first) carried q.entry = subst (IsEntryRead p (view first) carried) (dealt.2 ∙ at.2) (place.read.entries dealt.0 _ dealt.1) in
-      read f o (sym q.same) n m i q.left lt
+      let turn : ℕ = at.0 + page_of (word_address f i) in
+      let place = g.shares (turn % p.helpers) (omega arith) (mod-lt turn some) in
+      let read : IsEntryRead p (view first) carried place.share.place at.0 q.entry = subst (IsEntryRead p (view first) carried place.share.place at.0) at.2 (place.read.entries at.0 q.entry at.1) in
+      read f o (sym q.same) n m i q.left lt (sym place.here)
 
   read_dirty : (f : Found) → found p f.base ≡ Some f → f.kind ≡ Normal → IsMarked old f.base → (i : ℕ) → i < f.len → Has old.dirty (page_of (word_address f i)) → IsWordRead p (view first) carried f i
   read_dirty f o n m i lt d =

@@ -55,14 +55,14 @@ module _ (p : PauseView) where
     dirtied = λ q h. inl h;
     carried_len = refl;
     carried = λ q h. h;
-    stack = λ b h. h;
+    waiting = λ b h. h;
     fresh = λ f e c. inl c;
     own = λ o. o;
     left = omega arith;
   }
 
   pub awaited_more : (a b : Helper) → HelperGrows p a b → (f : Found) (i : ℕ) → IsAwaitedBy a f i → IsAwaitedBy b f i
-  awaited_more a b x f i h = ⊎_elim (λ d. inl (x.dirty _ d)) (λ s. inr (x.stack _ s)) h
+  awaited_more a b x f i h = ⊎_elim (λ d. inl (x.dirty _ d)) (λ s. inr (x.waiting _ s)) h
 
   pub target_more : (v w : ClaimerView) → ((k : ℕ) → knows v k ≡ true → knows w k ≡ true) → (n : ℕ) → IsTargetKnown p v n → IsTargetKnown p w n
   target_more v w more n k g e = more (granule g.base) (k g e)
@@ -85,7 +85,7 @@ module _ (p : PauseView) where
     dirtied = λ q h. ⊎_elim (λ m. ⊎_elim (λ o. inl o) (λ w. inr (page_more b c y.won q w)) (x.dirtied q m)) (λ w. inr w) (y.dirtied q h);
     carried_len = y.carried_len ∙ x.carried_len;
     carried = λ q h. y.carried q (x.carried q h);
-    stack = λ e h. y.stack e (x.stack e h);
+    waiting = λ e h. y.waiting e (x.waiting e h);
     fresh = λ f e k. ⊎_elim
         (λ m. ⊎_elim (λ o. inl o) (λ h. inr (λ n i lt. awaited_more b c y f i (h n i lt))) (x.fresh f e m))
         (λ h. inr h) (y.fresh f e k);
@@ -128,11 +128,11 @@ module _ (p : PauseView) where
       ⊎_elim (λ low. omega (arith, low, from, above)) (λ high. omega (arith, high, below, end, pages)) out)
 
   -- the object was marked by another, or before
-  pub visit_old : (w : ℕ) (g : Found) (old new : Helper) → found p w ≡ Some g → IsOf p.table new.claimer → new.stack ≡ old.stack → new.dirty ≡ old.dirty → new.carried ≡ old.carried → new.share ≡ old.share
+  pub visit_old : (w : ℕ) (g : Found) (old new : Helper) → found p w ≡ Some g → IsOf p.table new.claimer → new.waiting ≡ old.waiting → new.dirty ≡ old.dirty → new.carried ≡ old.carried → new.share ≡ old.share
       → LearnsMore (view old.claimer) (view new.claimer) → knows (view new.claimer) (granule g.base) ≡ true → won_of new ≡ won_of old → Visits p w old new
   visit_old w g old new e of st di ca sh le kn wo =
       let u = unknown_le (length (start_of p.table)) (view old.claimer) (view new.claimer) le.known in
-      let s : length new.stack.items ≡ length old.stack.items = ap (λ s. length s.items) st in record {
+      let s : length new.waiting ≡ length old.waiting = ap (λ s. length s) st in record {
         extends = record {
           of = of;
           share = sh;
@@ -143,22 +143,22 @@ module _ (p : PauseView) where
           dirtied = λ q h. inl (subst (λ d. Has d q) di h);
           carried_len = ap length ca;
           carried = λ q h. subst (λ d. Has d q) (sym ca) h;
-          stack = λ k h. subst (λ s. Contains s.items k) (sym st) h;
+          waiting = λ k h. subst (λ s. Contains s k) (sym st) h;
           fresh = λ f o c. inl (subst (λ l. Contains l (granule f.base)) wo c);
-          own = λ o k c. subst (λ l. Contains l (granule k)) (sym wo) (o k (subst (λ s. Contains s.items k) st c));
+          own = λ o k c. subst (λ l. Contains l (granule k)) (sym wo) (o k (subst (λ s. Contains s k) st c));
           left = omega (arith, u, s);
         };
         carried = ca;
         target = target_is w g (view new.claimer) e kn;
         only = record {
           won = λ k c. inl (subst (λ l. Contains l k) wo c);
-          entries = λ k c. inl (subst (λ s. Contains s.items k) st c);
+          entries = λ k c. inl (subst (λ s. Contains s k) st c);
         };
       }
 
   -- the claim was the first, and the object waits to be read
   pub visit_new : (w : ℕ) (g : Found) (old mid new : Helper) → IsMap (length p.map) (found p) → length (start_of p.table) ≡ PAGE_GRANULES * length p.map → found p w ≡ Some g
-      → IsOf p.table mid.claimer → mid.stack ≡ old.stack → mid.dirty ≡ old.dirty → mid.carried ≡ old.carried → mid.share ≡ old.share
+      → IsOf p.table mid.claimer → mid.waiting ≡ old.waiting → mid.dirty ≡ old.dirty → mid.carried ≡ old.carried → mid.share ≡ old.share
       → LearnsMore (view old.claimer) (view mid.claimer) → knows (view mid.claimer) (granule g.base) ≡ true → knows (view old.claimer) (granule g.base) ≡ false → won_of mid ≡ granule g.base ∷ won_of old
       → QueuesObject g mid new → Visits p w old new
   visit_new w g old mid new map size e of st di ca sh le kn un wo keep =
@@ -168,7 +168,7 @@ module _ (p : PauseView) where
       let le' : LearnsMore (view old.claimer) (view new.claimer) = subst (λ c. LearnsMore (view old.claimer) (view c)) (sym keep.claimer) le in
       let kn' : knows (view new.claimer) (granule g.base) ≡ true = ap (λ c. knows (view c) (granule g.base)) keep.claimer ∙ kn in
       let u = unknown_lt (length (start_of p.table)) (granule g.base) (view old.claimer) (view new.claimer) le'.known inside un kn' in
-      let s : length mid.stack.items ≡ length old.stack.items = ap (λ s. length s.items) st in
+      let s : length mid.waiting ≡ length old.waiting = ap (λ s. length s) st in
       let z = keep.size in
       let won' : Contains (won_of new) (granule g.base) = subst (λ l. Contains l (granule g.base)) (sym same) (contains_here (granule g.base) (won_of old)) in record {
         extends = record {
@@ -181,14 +181,14 @@ module _ (p : PauseView) where
           dirtied = λ q h. ⊎_elim (λ o. inl (subst (λ d. Has d q) di o)) (λ c. inr (g, base, won', c)) (keep.covered q h);
           carried_len = ap length keep.carried ∙ ap length ca;
           carried = λ q h. subst (λ d. Has d q) (sym (keep.carried ∙ ca)) h;
-          stack = λ k h. keep.stack k (subst (λ s. Contains s.items k) (sym st) h);
+          waiting = λ k h. keep.waiting k (subst (λ s. Contains s k) (sym st) h);
           fresh = λ f o c. ⊎_elim
               (λ (b : granule g.base ≡ granule f.base).
               inr (subst (λ (h : Found). h.kind ≡ Normal → (i : ℕ) → i < h.len → IsAwaitedBy new h i) (same_object (length p.map) (found p) map g f base o b) keep.awaited))
               (λ h. inl h)
               (contains_cons (granule g.base) (granule f.base) (won_of old) (subst (λ l. Contains l (granule f.base)) same c));
           own = λ o k c. ⊎_elim
-              (λ h. subst (λ l. Contains l (granule k)) (sym same) (contains_more (granule g.base) (granule k) (won_of old) (o k (subst (λ s. Contains s.items k) st h))))
+              (λ h. subst (λ l. Contains l (granule k)) (sym same) (contains_more (granule g.base) (granule k) (won_of old) (o k (subst (λ s. Contains s k) st h))))
               (λ (h : (k ≡ g.base) × (g.kind ≡ Normal)). subst (λ (n : ℕ). Contains (won_of new) (granule n)) (sym h.0) won')
               (keep.entries k c);
           left = omega (arith, u, s, z);
@@ -201,7 +201,7 @@ module _ (p : PauseView) where
               (λ h. inl h)
               (contains_cons (granule g.base) k (won_of old) (subst (λ l. Contains l k) same c));
           entries = λ k c. ⊎_elim
-              (λ h. inl (subst (λ s. Contains s.items k) st h))
+              (λ h. inl (subst (λ s. Contains s k) st h))
               (λ (h : (k ≡ g.base) × (g.kind ≡ Normal)). inr (g, record { word = w; one = refl; points = e }, sym h.0, h.1))
               (keep.entries k c);
         };
@@ -230,7 +230,7 @@ module _ (p : PauseView) where
   }
 
   -- a page has become carried, and nothing else has changed
-  extends_carried : (b c : Helper) → IsOf p.table b.claimer → c.claimer ≡ b.claimer → c.stack ≡ b.stack → c.dirty ≡ b.dirty → c.share ≡ b.share → length c.carried ≡ length b.carried → ((q : ℕ) → Has b.carried q → Has c.carried q)
+  extends_carried : (b c : Helper) → IsOf p.table b.claimer → c.claimer ≡ b.claimer → c.waiting ≡ b.waiting → c.dirty ≡ b.dirty → c.share ≡ b.share → length c.carried ≡ length b.carried → ((q : ℕ) → Has b.carried q → Has c.carried q)
       → HelperGrows p b c
   extends_carried b c of cl st di sh size more = record {
     of = subst (IsOf p.table) (sym cl) of;
@@ -242,24 +242,24 @@ module _ (p : PauseView) where
     dirtied = λ q h. inl (subst (λ d. Has d q) di h);
     carried_len = size;
     carried = more;
-    stack = λ k h. subst (λ s. Contains s.items k) (sym st) h;
+    waiting = λ k h. subst (λ s. Contains s k) (sym st) h;
     fresh = λ f e h. inl (subst (λ d. Contains (view d).won (granule f.base)) cl h);
-    own = λ o k h. subst (λ d. Contains (view d).won (granule k)) (sym cl) (o k (subst (λ s. Contains s.items k) st h));
+    own = λ o k h. subst (λ d. Contains (view d).won (granule k)) (sym cl) (o k (subst (λ s. Contains s k) st h));
     left =
         let u : unknown (length (start_of p.table)) (view c.claimer) ≡ unknown (length (start_of p.table)) (view b.claimer) = ap (λ h. unknown (length (start_of p.table)) (view h)) cl in
-        let s : length c.stack.items ≡ length b.stack.items = ap (λ s. length s.items) st in
+        let s : length c.waiting ≡ length b.waiting = ap (λ s. length s) st in
         omega (arith, u, s);
   }
 
-  only_carried : (P : ℕ → Type 0) (a b c : Helper) → c.claimer ≡ b.claimer → c.stack ≡ b.stack → ClaimsOnly p P a b → ClaimsOnly p P a c
+  only_carried : (P : ℕ → Type 0) (a b c : Helper) → c.claimer ≡ b.claimer → c.waiting ≡ b.waiting → ClaimsOnly p P a b → ClaimsOnly p P a c
   only_carried P a b c cl st x = record {
     won = λ k h. x.won k (subst (λ d. Contains (view d).won k) cl h);
-    entries = λ e h. x.entries e (subst (λ s. Contains s.items e) st h);
+    entries = λ e h. x.entries e (subst (λ s. Contains s e) st h);
   }
 
   -- words of an object that lie in a row on one page, which was carried then or not
   pub reads_run : (f : Found) (first n page : ℕ) (a b c : Helper) → first + n ≤ f.len → ((i : ℕ) → first ≤ i → i < first + n → page_of (word_address f i) ≡ page) → VisitsAll p (words_from p.memory f first n) a b
-      → c.claimer ≡ b.claimer → c.stack ≡ b.stack → c.dirty ≡ b.dirty → c.share ≡ b.share → CarriesPage (found p) (bytes_of p.marker) (words_from p.memory f first n) page b.carried c.carried → ReadsWords p f first n a c
+      → c.claimer ≡ b.claimer → c.waiting ≡ b.waiting → c.dirty ≡ b.dirty → c.share ≡ b.share → CarriesPage (found p) (bytes_of p.marker) (words_from p.memory f first n) page b.carried c.carried → ReadsWords p f first n a c
   reads_run f first n page a b c fits one_page v cl st di sh carries = record {
     extends = extends_trans a b c v.extends (extends_carried b c v.extends.of cl st di sh carries.len carries.stays);
     read = λ i le lt.

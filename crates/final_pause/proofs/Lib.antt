@@ -1,6 +1,7 @@
 pub mod Final
 pub mod Closing
 pub mod Knowing
+pub mod Waits
 pub mod Growing
 pub mod Serving
 pub mod Gathering

@@ -1,9 +1,8 @@
 -- A helper at work goes on: what it reads is reached, and what it owes is awaited.
-use Rattle.std.proofs.Common.{◌≡◌, ℕ, ◌+◌, ◌*◌, ◌<◌, ◌≤◌, Bool, List, [], ◌∷◌, ◌++◌, true, Contains, Some, None, length, refl, sym, ap, subst, ◌∙◌, inl, inr, ⊎_elim, arith}
+use Rattle.std.proofs.Common.{◌≡◌, ℕ, ◌+◌, ◌*◌, ◌<◌, ◌≤◌, Bool, List, true, Contains, Some, None, length, refl, sym, ap, subst, ◌∙◌, inl, inr, ⊎_elim, arith}
 use Rattle.std.specs.Prelude.{◌⊎◌}
 use Rattle.std.proofs.lemmas.Option.{same_Some}
 use Rattle.std.proofs.lemmas.Bool.{cases_lt, true≢false}
-use Rattle.std.proofs.lemmas.List.Elements.{Contains-append_cases, Contains-append_left, Contains-append_right}
 use Rattle.words.specs.declared.class.Kind.TheVariants.{Normal}
 use Rattle.words.specs.declared.limits.TheConstants.{WORD_BYTES}
 use Rattle.words.specs.Bits.{Has}
@@ -13,6 +12,7 @@ use Rattle.mark_bits.specs.Tables.{view, IsOf}
 use Rattle.mark_bits.specs.Claims.{doubled, knows, HasPart}
 use Rattle.block_map.specs.declared.found.Found.{Found}
 use Rattle.block_map.specs.Objects.{IsMap}
+use Rattle.pages.specs.Memory.{IsWordAddress}
 use Rattle.marker.specs.Marking.{IsMarked, word_address}
 use Rattle.marker.specs.Closure.{word}
 use Rattle.block_map.specs.Walks.{IsNextObject, IsNoObject}
@@ -24,9 +24,10 @@ use Rattle.final_pause.specs.declared.deal.Share.{Share}
 use Rattle.final_pause.specs.declared.helper.Helper.{Helper}
 use Rattle.final_pause.specs.Pauses.{PauseView}
 use Rattle.final_pause.specs.Dealing.{IsDealt}
+use Rattle.final_pause.specs.Waiting.{IsTaken}
 use Rattle.final_pause.specs.Helping.{found, won_of, IsReadyPause, IsHelperOf, HelperGrows, IsWordRead, IsAwaitedBy, QueuesObject, AreWon, HasStrayOn, IsPointedInto, ClaimsOnly, IsWordOf, Visits, ReadsWords}
-use Rattle.final_pause.specs.Serving.{IsReachable, IsReachedAt, IsQueuedAt, IsServing, GoesOnServing, IsEntryRead, AreRootsRead, AreEntriesRead, AreWordsRead, ArePagesRead, IsShareRead, IsHired}
-use Rattle.final_pause.proofs.Knowing.{contains_one, none_in}
+use Rattle.final_pause.specs.Serving.{IsReachable, IsReachedAt, IsQueuedAt, IsServing, GoesOnServing, IsRunRead, IsEntryRead, AreRootsRead, AreEntriesRead, AreWordsRead, ArePagesRead, IsShareRead, IsHired}
+use Rattle.final_pause.proofs.Knowing.{none_in}
 use Rattle.final_pause.proofs.Growing.{target_more, word_more, awaited_more, page_more}
 
 module _ (p : PauseView) where
@@ -58,7 +59,7 @@ module _ (p : PauseView) where
   stray_on f is normal reached q s = record { object = f; is = is; normal = normal; reached = reached; index = s.index; inside = s.inside; on = s.on; stray = s.stray }
 
   module _ (map : IsMap (length p.map) (found p)) (P : ℕ → Type 0) (reach : (w : ℕ) → P w → (g : Found) → found p w ≡ Some g → IsReachable p g) (a b : Helper) (only : ClaimsOnly p P a b) where
-    pub queued_more : ((k : ℕ) → Contains a.stack.items k → IsQueuedAt p k) → (k : ℕ) → Contains b.stack.items k → IsQueuedAt p k
+    pub queued_more : ((k : ℕ) → Contains a.waiting k → IsQueuedAt p k) → (k : ℕ) → Contains b.waiting k → IsQueuedAt p k
     queued_more q k c = ⊎_elim (λ h. q k h)
         (λ (r : (f : Found) × IsPointedInto p P f × (f.base ≡ k) × (f.kind ≡ Normal)).
         let t = r.1 in
@@ -86,6 +87,13 @@ module _ (p : PauseView) where
       own = x.own s.own;
     }
 
+  -- at the base of what waits stands a word
+  pub waiting_words : (h : Helper) → IsServing p h → (b : ℕ) → Contains h.waiting b → IsWordAddress p.memory b
+  waiting_words h s b c =
+      let q = s.queued b c in let placed = s.fits.ready.map.placed q.object.base q.object q.is in
+      let at = q.base_is in let aligned = placed.aligned in let above = placed.above in let below = placed.below in let some = placed.some in let size = s.fits.ready.memory in
+      record { aligned = omega arith; above = omega arith; below = omega arith }
+
   pub serves_refl : (h : Helper) → IsServing p h → GoesOnServing p h h
   serves_refl h s = record { serving = s; share = refl; learns = record { right = refl; known = λ k e. e }; carried = λ q h. h }
 
@@ -97,9 +105,9 @@ module _ (p : PauseView) where
     won = λ f o n c i lt. absurd (none_in (won_of h) (granule f.base) x.none_won c);
     dirtied = λ q d. absurd (true≢false (sym d ∙ x.dirty.clear q));
     strays = λ q d. absurd (true≢false (sym d ∙ x.carried.clear q));
-    queued = λ b c. absurd (none_in h.stack.items b x.no_entry c);
+    queued = λ b c. absurd (none_in h.waiting b x.no_entry c);
     within = λ k c. absurd (none_in (won_of h) k x.none_won c);
-    own = λ b c. absurd (none_in h.stack.items b x.no_entry c);
+    own = λ b c. absurd (none_in h.waiting b x.no_entry c);
   }
 
   pub serves_trans : (a b c : Helper) → GoesOnServing p a b → GoesOnServing p b c → GoesOnServing p a c
@@ -129,12 +137,12 @@ module _ (p : PauseView) where
     carried = r.extends.carried;
   }
 
-  -- an entry is taken off the stack
+  -- one that waited is taken out
   module _ (map : IsMap (length p.map) (found p)) (a m : Helper) (base : ℕ) (f : Found)
-      (claimer : m.claimer ≡ a.claimer) (dirty : m.dirty ≡ a.dirty) (carried : m.carried ≡ a.carried) (share : m.share ≡ a.share) (stack : a.stack.items ≡ m.stack.items ++ base ∷ [])
+      (claimer : m.claimer ≡ a.claimer) (dirty : m.dirty ≡ a.dirty) (carried : m.carried ≡ a.carried) (share : m.share ≡ a.share) (taken : IsTaken a.waiting base m.waiting)
       (is : found p base ≡ Some f) (s : IsServing p a) where
-    base_in : Contains a.stack.items base
-    base_in = subst (λ l. Contains l base) (sym stack) (Contains-append_right m.stack.items (base ∷ []) base (0, omega arith, refl))
+    base_in : Contains a.waiting base
+    base_in = taken.was
 
     here : IsQueuedAt p base
     here = s.queued base base_in
@@ -151,32 +159,32 @@ module _ (p : PauseView) where
     f_base : f.base ≡ base
     f_base = ap (λ (g : Found). g.base) (sym same) ∙ here.base_is
 
-    off_stack : (k : ℕ) → Contains a.stack.items k → Contains m.stack.items k ⊎ (base ≡ k)
-    off_stack k c = ⊎_elim (λ h. inl h) (λ h. inr (contains_one base k h)) (Contains-append_cases m.stack.items (base ∷ []) k (subst (λ l. Contains l k) stack c))
+    still_there : (k : ℕ) → Contains a.waiting k → Contains m.waiting k ⊎ (base ≡ k)
+    still_there k c = taken.stay k c
 
-    was_on : (k : ℕ) → Contains m.stack.items k → Contains a.stack.items k
-    was_on k c = subst (λ l. Contains l k) (sym stack) (Contains-append_left m.stack.items (base ∷ []) k c)
+    was_there : (k : ℕ) → Contains m.waiting k → Contains a.waiting k
+    was_there k c = taken.only k c
 
     -- the object at the base is this one
     at_this : (g : Found) → found p g.base ≡ Some g → base ≡ g.base → f ≡ g
     at_this g o e = same_Some f g (sym is ∙ (ap (found p) e ∙ o))
 
-    before : (k : ℕ) → Contains m.stack.items k → IsQueuedAt p k
-    before k c = s.queued k (was_on k c)
+    before : (k : ℕ) → Contains m.waiting k → IsQueuedAt p k
+    before k c = s.queued k (was_there k c)
 
     won_before : (k : ℕ) → Contains (won_of m) k → Contains (won_of a) k
     won_before k c = subst (λ h. Contains (view h).won k) claimer c
 
     own_before : AreWon m
-    own_before k c = subst (λ h. Contains (view h).won (granule k)) (sym claimer) (s.own k (was_on k c))
+    own_before k c = subst (λ h. Contains (view h).won (granule k)) (sym claimer) (s.own k (was_there k c))
 
     -- and its object is read
     module _ (b : Helper) (r : ReadsWords p f 0 f.len m b) where
       x : HelperGrows p m b
       x = r.extends
 
-      on_stack : (k : ℕ) → Contains a.stack.items k → Contains b.stack.items k ⊎ (base ≡ k)
-      on_stack k c = ⊎_elim (λ h. inl (x.stack k h)) (λ e. inr e) (off_stack k c)
+      stays_there : (k : ℕ) → Contains a.waiting k → Contains b.waiting k ⊎ (base ≡ k)
+      stays_there k c = ⊎_elim (λ h. inl (x.waiting k h)) (λ e. inr e) (still_there k c)
 
       known : (k : ℕ) → knows (view a.claimer) k ≡ true → knows (view b.claimer) k ≡ true
       known k h = x.learns.known k (ap (λ c. knows (view c) k) claimer ∙ h)
@@ -202,7 +210,7 @@ module _ (p : PauseView) where
             (λ k. inl (word_more p (view a.claimer) (view b.claimer) a.carried b.carried known carried_on g i k))
             (λ w. ⊎_elim
             (λ d. inr (inl (x.dirty _ (subst (λ d. Has d (page_of (word_address g i))) (sym dirty) d))))
-            (λ q. ⊎_elim (λ l. inr (inr l)) (λ (e : base ≡ g.base). inl (read_here g o e i lt)) (on_stack g.base q)) w)
+            (λ q. ⊎_elim (λ l. inr (inr l)) (λ (e : base ≡ g.base). inl (read_here g o e i lt)) (stays_there g.base q)) w)
             (s.won g o n (won_before (granule g.base) h) i lt))
             (λ h. inr (h n i lt)) (x.fresh g o c);
         dirtied = λ q h. ⊎_elim (λ o. page_more p a b won_after q (s.dirtied q (subst (λ d. Has d q) dirty o))) (λ w. w) (x.dirtied q h);
@@ -224,7 +232,7 @@ module _ (p : PauseView) where
       }
 
     -- or its object is left to its pages
-    module _ (b : Helper) (y : QueuesObject f m b) (rest : b.stack ≡ m.stack) where
+    module _ (b : Helper) (y : QueuesObject f m b) (rest : b.waiting ≡ m.waiting) where
       cl : b.claimer ≡ a.claimer
       cl = y.claimer ∙ claimer
 
@@ -237,15 +245,15 @@ module _ (p : PauseView) where
       won_too : (k : ℕ) → Contains (won_of a) k → Contains (won_of b) k
       won_too k c = subst (λ h. Contains (view h).won k) (sym cl) c
 
-      back : (k : ℕ) → Contains b.stack.items k → Contains m.stack.items k
-      back k c = subst (λ l. Contains l.items k) rest c
+      back : (k : ℕ) → Contains b.waiting k → Contains m.waiting k
+      back k c = subst (λ l. Contains l k) rest c
 
       awaits : (g : Found) → found p g.base ≡ Some g → g.kind ≡ Normal → (i : ℕ) → i < g.len → IsAwaitedBy a g i → IsAwaitedBy b g i
       awaits g o n i lt w = ⊎_elim
           (λ d. inl (y.dirty _ (subst (λ d. Has d (page_of (word_address g i))) (sym dirty) d)))
-          (λ q. ⊎_elim (λ l. inr (y.stack _ l))
+          (λ q. ⊎_elim (λ l. inr (y.waiting _ l))
           (λ (e : base ≡ g.base). subst (λ (z : Found). z.kind ≡ Normal → (j : ℕ) → j < z.len → IsAwaitedBy b z j) (at_this g o e) y.awaited n i lt)
-          (off_stack g.base q))
+          (still_there g.base q))
           w
 
       word_still : (g : Found) (i : ℕ) → IsWordRead p (view a.claimer) a.carried g i → IsWordRead p (view b.claimer) b.carried g i
@@ -263,7 +271,7 @@ module _ (p : PauseView) where
         strays = λ q h. s.strays q (subst (λ c. Has c q) ca h);
         queued = λ k c. before k (back k c);
         within = λ k c. s.within k (won_still k c);
-        own = λ k c. won_too _ (s.own k (was_on k (back k c)));
+        own = λ k c. won_too _ (s.own k (was_there k (back k c)));
       }
 
       pub serves_left : GoesOnServing p a b
@@ -279,11 +287,14 @@ module _ (p : PauseView) where
   roots_more v w more place n h i lt m = target_more p v w more _ (h i lt m)
 
   module _ (v w : ClaimerView) (c d : List Bool) (more : (k : ℕ) → knows v k ≡ true → knows w k ≡ true) (carried : (q : ℕ) → Has c q → Has d q) where
-    pub entry_more : (e : Entry) → IsEntryRead p v c e → IsEntryRead p w d e
-    entry_more e h f o b k m j le ll = word_more p v w c d more carried f j (h f o b k m j le ll)
+    pub run_more : (place number : ℕ) (f : Found) (first past : ℕ) → IsRunRead p v c place number f first past → IsRunRead p w d place number f first past
+    run_more place number f first past h i from below turn = word_more p v w c d more carried f i (h i from below turn)
 
-    pub entries_more : (entries : List Entry) (n : ℕ) → AreEntriesRead p v c entries n → AreEntriesRead p w d entries n
-    entries_more entries n h i e lt = entry_more _ (h i e lt)
+    pub entry_more : (place number : ℕ) (e : Entry) → IsEntryRead p v c place number e → IsEntryRead p w d place number e
+    entry_more place number e h f o b k m = run_more place number f e.next f.len (h f o b k m)
+
+    pub entries_more : (place n : ℕ) → AreEntriesRead p v c place n → AreEntriesRead p w d place n
+    entries_more place n h i e lt = entry_more place i _ (h i e lt)
 
     pub words_more : (low high : ℕ) → AreWordsRead p v c low high → AreWordsRead p w d low high
     words_more low high h f o b m i lt from below = word_more p v w c d more carried f i (h f o b m i lt from below)
@@ -294,7 +305,7 @@ module _ (p : PauseView) where
     pub share_more : (share : Share) → IsShareRead p v c share → IsShareRead p w d share
     share_more share h = record {
       roots = roots_more v w more share.place _ h.roots;
-      entries = entries_more share.entries.items _ h.entries;
+      entries = entries_more share.place _ h.entries;
       pages = pages_more share.pages _ h.pages;
     }
 

@@ -1,8 +1,8 @@
--- What is dealt to each helper before any starts.
-use Rattle.std.specs.Prelude.{◌≡◌, ℕ, ◌%◌, ◌<◌, Bool, List, length, Contains, slice_index_or}
+-- What is dealt to each helper before any starts, and the number of an entry.
+use Rattle.std.specs.Prelude.{◌≡◌, ℕ, ◌%◌, ◌<◌, Bool, List, length, slice_index_or}
 use Rattle.words.specs.Bits.{Has, members_between}
 use Rattle.marker.specs.declared.entry.Entry.{Entry}
-use Rattle.marker.specs.Marking.{Marking, entries}
+use Rattle.marker.specs.Marking.{Marking}
 use Rattle.final_pause.specs.declared.deal.Share.{Share}
 
 -- how many members a row has before this one
@@ -14,9 +14,7 @@ pub record IsAt (list : List Entry) (i : ℕ) (entry : Entry) : Type 0 where
   pub inside : i < length list
   pub value : (d : Entry) → slice_index_or list i d ≡ entry
 
--- The share has each entry and each dirty page whose number is its place modulo the number of helpers. The entry that is being read is
--- the last one.
+-- the share has each dirty page whose number is its place modulo the number of helpers
 pub record IsDealt (m : Marking) (helpers : ℕ) (s : Share) : Type 0 where
   pub size : length s.pages ≡ length m.dirty
-  pub entries_of : (i : ℕ) (d : Entry) → i < length (entries m) → i % helpers ≡ s.place → Contains s.entries.items (slice_index_or (entries m) i d)
   pub pages_of : (q : ℕ) → Has m.dirty q → rank m.dirty q % helpers ≡ s.place → Has s.pages q

@@ -76,11 +76,11 @@ pub record HasStrayOn (p : PauseView) (f : Found) (q : ℕ) : Type 0 where
 
 -- the word i of the object will be read: by this helper, or after the join
 abbrev pub IsAwaitedBy : Helper → Found → ℕ → Type 0
-IsAwaitedBy h f i = Has h.dirty (page_of (word_address f i)) ⊎ Contains h.stack.items f.base
+IsAwaitedBy h f i = Has h.dirty (page_of (word_address f i)) ⊎ Contains h.waiting f.base
 
--- the helper won the objects on its stack
+-- the helper won the objects that wait
 abbrev pub AreWon : Helper → Type 0
-AreWon h = (b : ℕ) → Contains h.stack.items b → Contains (won_of h) (granule b)
+AreWon h = (b : ℕ) → Contains h.waiting b → Contains (won_of h) (granule b)
 
 -- the page is one of an object that the helper won
 abbrev pub IsPageOfWon : PauseView → Helper → ℕ → Type 0
@@ -94,10 +94,10 @@ pub record QueuesObject (f : Found) (old new : Helper) : Type 0 where
   pub dirty_len : length new.dirty ≡ length old.dirty
   pub dirty : (q : ℕ) → Has old.dirty q → Has new.dirty q
   pub covered : (q : ℕ) → Has new.dirty q → Has old.dirty q ⊎ Covers f q
-  pub stack : (b : ℕ) → Contains old.stack.items b → Contains new.stack.items b
+  pub waiting : (b : ℕ) → Contains old.waiting b → Contains new.waiting b
   pub awaited : f.kind ≡ Normal → (i : ℕ) → i < f.len → IsAwaitedBy new f i
-  pub entries : (b : ℕ) → Contains new.stack.items b → Contains old.stack.items b ⊎ ((b ≡ f.base) × (f.kind ≡ Normal))
-  pub size : length new.stack.items ≤ length old.stack.items + 1
+  pub entries : (b : ℕ) → Contains new.waiting b → Contains old.waiting b ⊎ ((b ≡ f.base) × (f.kind ≡ Normal))
+  pub size : length new.waiting ≤ length old.waiting + 1
 
 -- 1 for a granule that isn't known to be marked, and 0 for one that is
 abbrev pub unseen : Bool → ℕ
@@ -110,10 +110,10 @@ unknown (suc n) v = unseen (knows v n) + unknown n v
 
 -- what bounds the objects that the helper will read yet
 abbrev pub reads_left : PauseView → Helper → ℕ
-reads_left p h = 2 * unknown (length (start_of p.table)) (view h.claimer) + length h.stack.items
+reads_left p h = 2 * unknown (length (start_of p.table)) (view h.claimer) + length h.waiting
 
 -- What the helper knows, its rows of pages and its entries only grow; each word of a newly won object is awaited, only pages of
--- these have become dirty, and it won what is on its stack, if it had won what was there.
+-- these have become dirty, and it won what waits, if it had won what waited.
 pub record HelperGrows (p : PauseView) (old new : Helper) : Type 0 where
   pub of : IsOf p.table new.claimer
   pub share : new.share ≡ old.share
@@ -124,7 +124,7 @@ pub record HelperGrows (p : PauseView) (old new : Helper) : Type 0 where
   pub dirtied : (q : ℕ) → Has new.dirty q → Has old.dirty q ⊎ IsPageOfWon p new q
   pub carried_len : length new.carried ≡ length old.carried
   pub carried : (q : ℕ) → Has old.carried q → Has new.carried q
-  pub stack : (b : ℕ) → Contains old.stack.items b → Contains new.stack.items b
+  pub waiting : (b : ℕ) → Contains old.waiting b → Contains new.waiting b
   pub fresh : (f : Found) → found p f.base ≡ Some f → Contains (won_of new) (granule f.base)
       → Contains (won_of old) (granule f.base) ⊎ (f.kind ≡ Normal → (i : ℕ) → i < f.len → IsAwaitedBy new f i)
   pub own : AreWon old → AreWon new
@@ -136,10 +136,10 @@ pub record IsPointedInto (p : PauseView) (P : ℕ → Type 0) (object : Found) :
   pub one : P word
   pub points : found p word ≡ Some object
 
--- only objects that one of these words points into were won and put on the stack
+-- only objects that one of these words points into were won, and wait
 pub record ClaimsOnly (p : PauseView) (P : ℕ → Type 0) (old new : Helper) : Type 0 where
   pub won : (k : ℕ) → Contains (won_of new) k → Contains (won_of old) k ⊎ ((f : Found) × IsPointedInto p P f × (granule f.base ≡ k))
-  pub entries : (b : ℕ) → Contains new.stack.items b → Contains old.stack.items b ⊎ ((f : Found) × IsPointedInto p P f × (f.base ≡ b) × (f.kind ≡ Normal))
+  pub entries : (b : ℕ) → Contains new.waiting b → Contains old.waiting b ⊎ ((f : Found) × IsPointedInto p P f × (f.base ≡ b) × (f.kind ≡ Normal))
 
 -- what the word points into is known to be marked, nothing else was won, and no page has become carried
 pub record Visits (p : PauseView) (w : ℕ) (old new : Helper) : Type 0 where

@@ -2,14 +2,14 @@
 use Rattle.std.specs.Prelude.{◌≡◌, ℕ, ◌+◌, ◌%◌, ◌<◌, ◌≤◌, Bool, List, [], length, slice_index_or, slice_index, Contains, Some, ◌⊎◌}
 use Rattle.words.specs.declared.class.Kind.TheVariants.{Normal}
 use Rattle.words.specs.Bits.{Has, IsClear}
-use Rattle.words.specs.Layout.{granule, page_start}
+use Rattle.words.specs.Layout.{granule, page_of, page_start}
 use Rattle.mark_bits.specs.declared.claimer_view.ClaimerView.{ClaimerView}
 use Rattle.mark_bits.specs.Tables.{view, IsOf}
 use Rattle.mark_bits.specs.Claims.{HasPart, LearnsMore}
 use Rattle.mark_bits.specs.declared.table.MarkTable.{MarkTable}
 use Rattle.block_map.specs.declared.found.Found.{Found}
 use Rattle.marker.specs.declared.entry.Entry.{Entry}
-use Rattle.marker.specs.Marking.{Marking, IsMarked, word_address}
+use Rattle.marker.specs.Marking.{Marking, IsMarked, entries, word_address}
 use Rattle.marker.specs.Closure.{Closure}
 use Rattle.marker.specs.Growth.{IsStrayPage}
 use Rattle.final_pause.specs.declared.deal.Share.{Share}
@@ -38,8 +38,8 @@ pub record IsQueuedAt (p : PauseView) (base : ℕ) : Type 0 where
   pub reached : IsReachable p object
 
 -- A helper at work, between two objects. Each word of a Normal object that it won was read, or the helper will come to it, or
--- its page is dirty in the helper's row; on each page that it carries stands a stray word of a reached Normal object; and it won what is
--- on its stack.
+-- its page is dirty in the helper's row; on each page that it carries stands a stray word of a reached Normal object; and it won what
+-- waits.
 pub record IsServing (p : PauseView) (h : Helper) : Type 0 where
   pub fits : IsHelperOf p h
   pub part : HasPart (view h.claimer) (h.share.place + 1)
@@ -47,22 +47,27 @@ pub record IsServing (p : PauseView) (h : Helper) : Type 0 where
       → IsWordRead p (view h.claimer) h.carried f i ⊎ IsAwaitedBy h f i
   pub dirtied : (q : ℕ) → Has h.dirty q → IsPageOfWon p h q
   pub strays : (q : ℕ) → Has h.carried q → IsStrayPage (found p) p.memory p.roots p.marker q
-  pub queued : (b : ℕ) → Contains h.stack.items b → IsQueuedAt p b
+  pub queued : (b : ℕ) → Contains h.waiting b → IsQueuedAt p b
   pub within : (k : ℕ) → Contains (won_of h) k → IsReachedAt p k
   pub own : AreWon h
 
--- the words that the entry had left were read, if it was one of a marked Normal object
-abbrev pub IsEntryRead : PauseView → ClaimerView → List Bool → Entry → Type 0
-IsEntryRead p v carried e = (f : Found) → found p f.base ≡ Some f → f.base ≡ e.base → f.kind ≡ Normal → IsMarked p.marker f.base
-    → (i : ℕ) → e.next ≤ i → i < f.len → IsWordRead p v carried f i
+-- Of these words of an object, which is that of the entry of a number, the place's were read: those on the pages of which the page's
+-- number and the entry's are together the place, modulo the number of helpers.
+abbrev pub IsRunRead : PauseView → ClaimerView → List Bool → ℕ → ℕ → Found → ℕ → ℕ → Type 0
+IsRunRead p v carried place number f first past = (i : ℕ) → first ≤ i → i < past → (number + page_of (word_address f i)) % p.helpers ≡ place → IsWordRead p v carried f i
+
+-- the place's part of the words that an entry had left was read, if it was one of a marked Normal object
+abbrev pub IsEntryRead : PauseView → ClaimerView → List Bool → ℕ → ℕ → Entry → Type 0
+IsEntryRead p v carried place number e = (f : Found) → found p f.base ≡ Some f → f.base ≡ e.base → f.kind ≡ Normal → IsMarked p.marker f.base
+    → IsRunRead p v carried place number f e.next f.len
 
 -- what the root words of a place point into, among the first n, is known to be marked
 abbrev pub AreRootsRead : PauseView → ClaimerView → ℕ → ℕ → Type 0
 AreRootsRead p v place n = (i : ℕ) → i < n → i % p.helpers ≡ place → IsTargetKnown p v (slice_index p.roots i)
 
--- the first n of these entries were read
-abbrev pub AreEntriesRead : PauseView → ClaimerView → List Bool → List Entry → ℕ → Type 0
-AreEntriesRead p v carried entries n = (i : ℕ) (d : Entry) → i < n → IsEntryRead p v carried (slice_index_or entries i d)
+-- the place's parts of the first n entries were read
+abbrev pub AreEntriesRead : PauseView → ClaimerView → List Bool → ℕ → ℕ → Type 0
+AreEntriesRead p v carried place n = (i : ℕ) (d : Entry) → i < n → IsEntryRead p v carried place i (slice_index_or (entries p.marker) i d)
 
 -- the words between two addresses were read, if they are words of Normal objects that were marked before
 abbrev pub AreWordsRead : PauseView → ClaimerView → List Bool → ℕ → ℕ → Type 0
@@ -82,19 +87,19 @@ AreObjectsRead p v carried low past = (f : Found) → found p f.base ≡ Some f 
 abbrev pub ArePagesRead : PauseView → ClaimerView → List Bool → List Bool → ℕ → Type 0
 ArePagesRead p v carried row n = (page : ℕ) → page < n → Has row page → IsPageRead p v carried page
 
--- The root words of the share's place, and the entries and the pages that were dealt to it, were read. Root word i is that of
--- the place i modulo the number of helpers.
+-- The root words and the parts of entries of the share's place, and the pages that were dealt to it, were read. Root word i is that
+-- of the place i modulo the number of helpers.
 pub record IsShareRead (p : PauseView) (v : ClaimerView) (carried : List Bool) (share : Share) : Type 0 where
   pub roots : AreRootsRead p v share.place (length p.roots)
-  pub entries : AreEntriesRead p v carried share.entries.items (length share.entries.items)
+  pub entries : AreEntriesRead p v carried share.place (length (entries p.marker))
   pub pages : ArePagesRead p v carried share.pages (length p.map)
 
--- The helper of a place that is done: it serves, nothing is on its stack, and its share is read; so each word of a Normal object
+-- The helper of a place that is done: it serves, nothing waits, and its share is read; so each word of a Normal object
 -- that it won was read, or stands on a dirty page of its row.
 pub record HasServed (p : PauseView) (place : ℕ) (h : Helper) : Type 0 where
   pub serving : IsServing p h
   pub here : h.share.place ≡ place
-  pub empty : h.stack.items ≡ []
+  pub empty : h.waiting ≡ []
   pub read : IsShareRead p (view h.claimer) h.carried h.share
 
 -- a helper at work goes on, and keeps its share
@@ -111,5 +116,5 @@ pub record IsHired (t : MarkTable) (m : Marking) (helpers : ℕ) (h : Helper) : 
   pub none_won : won_of h ≡ []
   pub dirty : IsClear h.dirty (length m.dirty)
   pub carried : IsClear h.carried (length m.dirty)
-  pub no_entry : h.stack.items ≡ []
+  pub no_entry : h.waiting ≡ []
   pub dealt : IsDealt m helpers h.share

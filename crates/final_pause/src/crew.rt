@@ -13,7 +13,7 @@ use crate::deal::deal;
 use crate::gate::FIRST_HELPER;
 use crate::helper::Helper;
 use crate::share::Pause;
-use arrayvec::ArrayVec;
+use crate::waiting::Waiting;
 use dirty_pages::DirtyPages;
 use mark_bits::{Claimer, MarkTable};
 use marker::Marker;
@@ -54,7 +54,7 @@ fn new_helper(
     let claimer = table.split(first);
     Ok(Helper {
         claimer,
-        stack: ArrayVec::new(),
+        waiting: Waiting::new(),
         dirty,
         carried,
         share,
@@ -117,7 +117,7 @@ fn take_in(
 {
     let Helper {
         claimer,
-        stack: _,
+        waiting: _,
         dirty: more,
         carried: carried_more,
         share: _,

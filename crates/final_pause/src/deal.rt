@@ -17,56 +17,11 @@ use std::alloc::{AllocError, Global};
 use words::PageNo;
 use words::limits::{MARK_STACK_ENTRIES, MOST_PAGES};
 
-// As many entries as a marker may have left over.
-const ROOM: usize = MARK_STACK_ENTRIES as usize + 1;
-
 /// What one helper reads: the root words of its place among the helpers, and the entries and dirty pages that were dealt to it.
 #[derive(Drop)]
 pub(crate) struct Share {
     pub(crate) place: usize,
-    pub(crate) entries: ArrayVec<Entry, ROOM>,
     pub(crate) pages: DirtyPages,
-}
-
-// Deals an entry, if its turn is the helper's.
-fn deal_entry(dealt: &mut ArrayVec<Entry, ROOM>, entry: Entry, is_turn: bool)
-    requires room { length dealt.old.items < ROOM }
-    ensures turn { is_turn ≡ true → Contains dealt.new.items entry }
-    ensures others { (e : EntryValue) → Contains dealt.old.items e → Contains dealt.new.items e }
-    ensures few { length dealt.new.items ≤ length dealt.old.items + 1 }
-{
-    if is_turn {
-        dealt.push(entry);
-    }
-}
-
-// The entry of a number, and `None` from where there is no more.
-fn entry_at(marker: &Marker, number: usize) -> Option<Entry>
-    ensures { MatchOption result (length (entries marker.now) ≤ number) (λ e. IsAt (entries marker.now) number e) }
-{
-    let waiting = marker.waiting();
-    if number < waiting.len() {
-        return Some(waiting[number]);
-    }
-    if number > waiting.len() {
-        return None;
-    }
-    marker.current()
-}
-
-// The entries of one place.
-fn deal_entries(marker: &Marker, place: usize, helpers: usize) -> ArrayVec<Entry, ROOM>
-    requires some { 0 < helpers }
-    ensures { (i : ℕ) (d : EntryValue) → i < length (entries marker.now) → i % helpers ≡ place → Contains result.items (slice_index_or (entries marker.now) i d) }
-{
-    marker.laws();
-    let mut dealt = ArrayVec::new();
-    let mut number = 0;
-    while let Some(entry) = entry_at(marker, number) {
-        deal_entry(&mut dealt, entry, number % helpers == place);
-        number += 1;
-    }
-    dealt
 }
 
 // Deals a page, if it is dirty and its turn is the helper's. Answers how many dirty pages there are up to it.
@@ -140,7 +95,6 @@ pub(crate) fn deal(
     let dealt = deal_pages(alloc, marker.dirty_pages(), pages, place, helpers)?;
     Ok(Share {
         place,
-        entries: deal_entries(marker, place, helpers),
         pages: dealt,
     })
 }

@@ -8,24 +8,20 @@ ghost use Rattle.final_pause.specs.Helping.{QueuesObject};
 
 use crate::deal::Share;
 use crate::gate::Gate;
-use arrayvec::ArrayVec;
+use crate::waiting::Waiting;
 use block_map::Found;
 use dirty_pages::DirtyPages;
 use mark_bits::{Claimer, MarkTable};
 use marker::dirty_object;
-use words::limits::MARK_STACK_ENTRIES;
 use words::{Kind, PageNo};
 
-/// The entries of a helper's stack.
-pub(crate) const ENTRIES: usize = MARK_STACK_ENTRIES as usize;
-
-/// What one helper marks with: its claimer, the bases of the objects that it still has to read, the pages of those that
+/// What one helper marks with: its claimer, the objects that it won and still has to read, the pages of those that
 /// found no room, the pages that it carries, its share, how many words of objects that it won it may still read, its number for the
 /// gate, and how many claims it has made.
 #[derive(Drop)]
 pub struct Helper {
     pub(crate) claimer: Claimer,
-    pub(crate) stack: ArrayVec<u64, ENTRIES>,
+    pub(crate) waiting: Waiting,
     pub(crate) dirty: DirtyPages,
     pub(crate) carried: DirtyPages,
     pub(crate) share: Share,
@@ -53,7 +49,7 @@ pub(crate) fn claim<G: Gate>(
     requires of { IsOf table.now helper.old.claimer }
     requires inside { granule < granules_of table.now }
     ensures of { IsOf table.now helper.new.claimer }
-    ensures stack { helper.new.stack ≡ helper.old.stack }
+    ensures waiting { helper.new.waiting ≡ helper.old.waiting }
     ensures dirty { helper.new.dirty ≡ helper.old.dirty }
     ensures carried { helper.new.carried ≡ helper.old.carried }
     ensures share { helper.new.share ≡ helper.old.share }
@@ -69,8 +65,8 @@ pub(crate) fn claim<G: Gate>(
     won
 }
 
-// Sees to it that the words of an object that the helper won are read: it waits on the stack, or where that is full, the
-// pages that it covers become dirty.
+// Sees to it that the words of an object that the helper won are read: it waits, or where there is no room, the pages that it
+// covers become dirty.
 pub(crate) fn queue(helper: &mut Helper, found: Found)
     requires placed { IsPlaced (length helper.old.dirty) found }
     requires small { length helper.old.dirty ≤ MOST_PAGES }
@@ -79,10 +75,8 @@ pub(crate) fn queue(helper: &mut Helper, found: Found)
     if found.kind == Kind::PointerFree {
         return;
     }
-    if helper.stack.is_full() {
+    if !helper.waiting.put(found.base) {
         put_off(helper, found);
-    } else {
-        helper.stack.push(found.base);
     }
 }
 
@@ -91,7 +85,7 @@ pub(crate) fn put_off(helper: &mut Helper, found: Found)
     requires placed { IsPlaced (length helper.old.dirty) found }
     requires small { length helper.old.dirty ≤ MOST_PAGES }
     ensures queued { QueuesObject found helper.old helper.new }
-    ensures stack { helper.new.stack ≡ helper.old.stack }
+    ensures waiting { helper.new.waiting ≡ helper.old.waiting }
 {
     dirty_object(&mut helper.dirty, found);
 }
@@ -101,7 +95,7 @@ pub(crate) fn put_off(helper: &mut Helper, found: Found)
 pub(crate) fn carry(helper: &mut Helper, page: PageNo)
     requires { page < length helper.old.carried }
     ensures claimer { helper.new.claimer ≡ helper.old.claimer }
-    ensures stack { helper.new.stack ≡ helper.old.stack }
+    ensures waiting { helper.new.waiting ≡ helper.old.waiting }
     ensures dirty { helper.new.dirty ≡ helper.old.dirty }
     ensures carried { helper.new.carried ≡ slice_set helper.old.carried page true }
     ensures share { helper.new.share ≡ helper.old.share }

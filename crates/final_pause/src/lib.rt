@@ -11,6 +11,7 @@ mod alone;
 mod before;
 mod crew;
 mod deal;
+mod entries;
 mod gate;
 mod helper;
 mod helpers;
@@ -18,6 +19,7 @@ mod page;
 mod parallel;
 mod round;
 mod share;
+mod waiting;
 
 pub use alone::close_marks;
 pub use gate::{COLLECTOR_ACTOR, FIRST_HELPER, Gate, Open};

@@ -171,7 +171,7 @@ impl<'a> Pause<'a> {
             return;
         }
         self.read_page(gate, helper, page);
-        self.read_stack(gate, helper);
+        self.make_room(gate, helper);
     }
 
     /// Reads the pages that were dealt to the helper, each with what it leads to. Past the used ones there is no object.

@@ -14,10 +14,13 @@ use crate::gate::Gate;
 use crate::helper::{Helper, carry, claim, put_off, queue};
 use block_map::{BlockMap, Found};
 use mark_bits::MarkTable;
-use marker::{Entry, Marker};
+use marker::Marker;
 use pages::{Memory, Reader, Words};
-use words::limits::{FIRST_ADDRESS, PAGE_BYTES, WORD_BYTES};
+use words::limits::{FIRST_ADDRESS, PAGE_BYTES, PAGE_WORDS, WORD_BYTES};
 use words::{PageNo, granule_of, page_of};
+
+// An object of more words is long.
+const LONG: u64 = 4 * PAGE_WORDS;
 
 /// What the helpers of a pause share. No helper changes any of it but the table, by claims.
 #[derive(Clone, Copy)]
@@ -152,30 +155,17 @@ impl<'a> Pause<'a> {
         }
     }
 
-    // Marks what the words that an entry has left point into.
-    fn read_entry<G: Gate>(&self, gate: &G, helper: &mut Helper, entry: Entry)
+    // Reads the objects that wait, and those that come, until none is left. A long one, and one that has more words than the helper
+    // may still read, is left to its pages, which the next round deals to all.
+    pub(crate) fn read_waiting<G: Gate>(&self, gate: &G, helper: &mut Helper)
         requires { IsServing (pause_view self.now) helper.old }
         ensures serves { GoesOnServing (pause_view self.now) helper.old helper.new }
-        ensures read { IsEntryRead (pause_view self.now) (view helper.new.claimer) helper.new.carried entry }
+        ensures empty { helper.new.waiting ≡ [] }
     {
-        let Some(found) = self.marker.unread(self.map, entry) else {
-            return;
-        };
-        let count = found.len - entry.next;
-        self.read_words(gate, helper, found, entry.next, u64::from(count));
-    }
-
-    // Reads the objects on the helper's stack, and those that come there, until none is left. One that has more words than the helper
-    // may still read is left to its pages.
-    pub(crate) fn read_stack<G: Gate>(&self, gate: &G, helper: &mut Helper)
-        requires { IsServing (pause_view self.now) helper.old }
-        ensures serves { GoesOnServing (pause_view self.now) helper.old helper.new }
-        ensures empty { helper.new.stack.items ≡ [] }
-    {
-        while let Some(base) = helper.stack.pop() {
+        while let Some(base) = helper.waiting.take(self.memory) {
             let found = self.map.object_at(base);
             let words = u64::from(found.len);
-            if words > helper.left {
+            if words > helper.left.min(LONG) {
                 put_off(helper, found);
             } else {
                 helper.left -= words;
@@ -184,16 +174,14 @@ impl<'a> Pause<'a> {
         }
     }
 
-    // Reads the entries that were dealt to the helper, each with what it leads to.
-    fn read_entries<G: Gate>(&self, gate: &G, helper: &mut Helper)
+    /// Reads what waits, where more will come and there may soon be no room for it.
+    #[inline]
+    pub(crate) fn make_room<G: Gate>(&self, gate: &G, helper: &mut Helper)
         requires { IsServing (pause_view self.now) helper.old }
-        ensures serves { GoesOnServing (pause_view self.now) helper.old helper.new }
-        ensures read { AreEntriesRead (pause_view self.now) (view helper.new.claimer) helper.new.carried helper.old.share.entries.items (length helper.old.share.entries.items) }
+        ensures { GoesOnServing (pause_view self.now) helper.old helper.new }
     {
-        for i in 0..helper.share.entries.len() {
-            let entry = helper.share.entries.as_slice()[i];
-            self.read_entry(gate, helper, entry);
-            self.read_stack(gate, helper);
+        if helper.waiting.is_crowded() {
+            self.read_waiting(gate, helper);
         }
     }
 
@@ -205,6 +193,6 @@ impl<'a> Pause<'a> {
         self.read_roots(gate, helper);
         self.read_entries(gate, helper);
         self.read_pages(gate, helper);
-        self.read_stack(gate, helper);
+        self.read_waiting(gate, helper);
     }
 }

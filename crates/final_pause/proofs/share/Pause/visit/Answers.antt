@@ -45,7 +45,7 @@ returns-then-claim-clause-visits g c =
     let n : ℕ = c.granule-granule.result in
     let is : n ≡ granule c.in-Some.found.base = c.granule-granule.ensures.value in
     visit_new (pause_view c.args.self.now) c.args.word c.in-Some.found c.args.helper.now c.claim.new.helper c.queue.new.helper
-    c.requires.ready.map c.requires.ready.granules (sym c.find.ensures.found ∙ c.in-Some.is) k.of k.stack k.dirty k.carried k.share
+    c.requires.ready.map c.requires.ready.granules (sym c.find.ensures.found ∙ c.in-Some.is) k.of k.waiting k.dirty k.carried k.share
     (record { right = k.learns.right ∙ s.learns.right; known = λ j e. k.learns.known j (s.learns.known j e) })
     (ap (λ (j : ℕ). knows (view c.claim.new.helper.claimer) j) (sym is) ∙ k.known)
     (ap (λ (j : ℕ). knows (view c.args.helper.now.claimer) j) (sym is) ∙ false_from_ne_true (knows (view c.args.helper.now.claimer) n) (λ e. true≢false (sym (s.known e) ∙ c.if-is_set.false)))
@@ -58,7 +58,7 @@ returns-else-claim-clause-visits g c =
     let won : List ℕ = (view c.is_set.new.me).won in
     let n : ℕ = c.granule-granule.result in
     visit_old (pause_view c.args.self.now) c.args.word c.in-Some.found c.args.helper.now c.claim.new.helper
-    (sym c.find.ensures.found ∙ c.in-Some.is) k.of k.stack k.dirty k.carried k.share
+    (sym c.find.ensures.found ∙ c.in-Some.is) k.of k.waiting k.dirty k.carried k.share
     (record { right = k.learns.right ∙ s.learns.right; known = λ j e. k.learns.known j (s.learns.known j e) })
     (ap (λ (j : ℕ). knows (view c.claim.new.helper.claimer) j) (sym c.granule-granule.ensures.value) ∙ k.known)
     (k.won ∙ (ap (λ (b : Bool). if b then n ∷ won else won) c.if-claim.false ∙ s.won))

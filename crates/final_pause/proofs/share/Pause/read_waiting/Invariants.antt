@@ -1,7 +1,7 @@
 use Rattle.final_pause.specs.Pauses.{pause_view}
 use Rattle.final_pause.specs.Helping.{reads_left}
 use Rattle.final_pause.specs.Serving.{GoesOnServing}
-use Rattle.final_pause.proofs.share.Pause.read_stack.Given as goal
+use Rattle.final_pause.proofs.share.Pause.read_waiting.Given as goal
 
 abbrev pub invariant-loop-base : goal.invariant-loop-base
 invariant-loop-base g l = GoesOnServing (pause_view l.self) l.fn.helper l.helper

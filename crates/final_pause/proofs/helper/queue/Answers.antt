@@ -1,0 +1,21 @@
+use Rattle.std.proofs.Common.{◌≡◌, refl, inl, inr, ⊎_elim, rules}
+use Rattle.words.specs.declared.class.Kind.TheVariants.{Normal}
+use Rattle.final_pause.specs.Waiting.{IsPut}
+use Rattle.final_pause.proofs.helper.queue.Goals as goal
+
+pub returns-else-not-put : goal.returns-else-not-put
+returns-else-not-put c =
+    let normal : c.args.found.kind ≡ Normal = search rules in
+    let put : IsPut c.args.helper.now.waiting c.args.found.base c.put.new.self = search rules in
+    record {
+      claimer = refl;
+      share = refl;
+      carried = refl;
+      dirty_len = refl;
+      dirty = λ q h. h;
+      covered = λ q h. inl h;
+      waiting = put.stay;
+      awaited = λ n i lt. inr put.here;
+      entries = λ b h. ⊎_elim (λ o. inl o) (λ e. inr (e, normal)) (put.only b h);
+      size = put.size;
+    }

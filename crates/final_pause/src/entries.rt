@@ -1,0 +1,102 @@
+//! The entries that were left over, which the helpers read together.
+//!
+//! They are numbered from the lowest one on, and the one that is being read comes last. Of the entry of a number a helper reads the words
+//! on those pages of which the page's number and the entry's are together its place, modulo the number of helpers. So an object on
+//! one page is read by one of them, and a long one by all.
+ghost use Rattle.std.specs.Prelude.{◌≡◌, ℕ, ◌+◌, ◌<◌, ◌≤◌, Some, MatchOption, length};
+ghost use Rattle.words.specs.Layout.{page_of};
+ghost use Rattle.words.specs.declared.class.Kind.TheVariants.{Normal};
+ghost use Rattle.words.specs.declared.limits.TheConstants.{MARK_STACK_ENTRIES};
+ghost use Rattle.mark_bits.specs.Tables.{view};
+ghost use Rattle.block_map.specs.FoundIn.{found_in};
+ghost use Rattle.marker.specs.Marking.{IsMarked, entries, word_address};
+ghost use Rattle.final_pause.specs.Dealing.{IsAt};
+ghost use Rattle.final_pause.specs.Pauses.{pause_view};
+ghost use Rattle.final_pause.specs.Serving.{IsServing, GoesOnServing, IsRunRead, IsEntryRead, AreEntriesRead};
+
+use crate::gate::Gate;
+use crate::helper::Helper;
+use crate::share::Pause;
+use block_map::Found;
+use marker::{Entry, Marker};
+use words::limits::{PAGE_BYTES, WORD_BYTES};
+use words::page_of;
+
+// The entry of a number, and `None` from where there is no more.
+fn entry_at(marker: &Marker, number: usize) -> Option<Entry>
+    ensures { MatchOption result (length (entries marker.now) ≤ number) (λ e. IsAt (entries marker.now) number e) }
+{
+    let waiting = marker.waiting();
+    if number < waiting.len() {
+        return Some(waiting[number]);
+    }
+    if number > waiting.len() {
+        return None;
+    }
+    marker.current()
+}
+
+impl<'a> Pause<'a> {
+    // Reads so many words of an object, from its word `first` on, which stand on one page, if it is the helper's turn.
+    fn read_turn<G: Gate>(
+        &self,
+        gate: &G,
+        helper: &mut Helper,
+        found: Found,
+        first: u32,
+        count: u64,
+        number: usize,
+    )
+        requires serving { IsServing (pause_view self.now) helper.old }
+        requires object { found_in self.now.map.now found.base ≡ Some found }
+        requires normal { found.kind ≡ Normal }
+        requires marked { IsMarked self.now.marker.now found.base }
+        requires inside { first + count ≤ found.len }
+        requires some { 0 < count }
+        requires one_page { (i : ℕ) → first ≤ i → i < first + count → page_of (word_address found i) ≡ page_of (word_address found first) }
+        requires few { number ≤ MARK_STACK_ENTRIES }
+        ensures serves { GoesOnServing (pause_view self.now) helper.old helper.new }
+        ensures read { IsRunRead (pause_view self.now) (view helper.new.claimer) helper.new.carried helper.old.share.place number found first (first + count) }
+    {
+        let page = page_of(found.base + WORD_BYTES * u64::from(first)) as usize;
+        if (number + page) % self.helpers != helper.share.place {
+            return;
+        }
+        self.read_run(gate, helper, found, first, count);
+        self.make_room(gate, helper);
+    }
+
+    // Reads the helper's part of the words that the entry of a number has left.
+    fn read_entry<G: Gate>(&self, gate: &G, helper: &mut Helper, entry: Entry, number: usize)
+        requires serving { IsServing (pause_view self.now) helper.old }
+        requires few { number ≤ MARK_STACK_ENTRIES }
+        ensures serves { GoesOnServing (pause_view self.now) helper.old helper.new }
+        ensures read { IsEntryRead (pause_view self.now) (view helper.new.claimer) helper.new.carried helper.old.share.place number entry }
+    {
+        let Some(found) = self.marker.unread(self.map, entry) else {
+            return;
+        };
+        let mut next = entry.next;
+        while next < found.len {
+            let address = found.base + WORD_BYTES * u64::from(next);
+            let on_page = (PAGE_BYTES - address % PAGE_BYTES) / WORD_BYTES;
+            let count = on_page.min(u64::from(found.len - next));
+            self.read_turn(gate, helper, found, next, count, number);
+            next += count as u32;
+        }
+    }
+
+    /// Reads the helper's part of all entries.
+    pub(crate) fn read_entries<G: Gate>(&self, gate: &G, helper: &mut Helper)
+        requires { IsServing (pause_view self.now) helper.old }
+        ensures serves { GoesOnServing (pause_view self.now) helper.old helper.new }
+        ensures read { AreEntriesRead (pause_view self.now) (view helper.new.claimer) helper.new.carried helper.old.share.place (length (entries self.now.marker.now)) }
+    {
+        self.marker.laws();
+        let mut number = 0;
+        while let Some(entry) = entry_at(self.marker, number) {
+            self.read_entry(gate, helper, entry, number);
+            number += 1;
+        }
+    }
+}
