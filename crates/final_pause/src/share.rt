@@ -56,21 +56,34 @@ impl<'a> Pause<'a> {
     }
 
     // Marks the object that a word points into. Where this helper is the first to, the object is its own to read. Answers
-    // whether the word is stray: it lies in the heap's range and points into no object.
+    // whether the word is stray: it lies in the heap's range and points into no object. Most words lie outside, and the loop over words
+    // is to hold that test alone.
+    #[inline]
     fn visit<G: Gate>(&self, gate: &G, helper: &mut Helper, word: u64) -> bool
         requires { IsHelperOf (pause_view self.now) helper.old }
         ensures visits { Visits (pause_view self.now) word helper.old helper.new }
         ensures stray { TellsStray (found_in self.now.map.now) (bytes_of self.now.marker.now) (word ∷ []) result }
     {
-        // Most words lie outside of the heap.
-        if !self.is_inside(word) {
-            return false;
+        if self.is_inside(word) {
+            self.visit_target(gate, helper, word)
+        } else {
+            false
         }
+    }
+
+    // The same of a word in the heap's range.
+    #[inline(never)]
+    fn visit_target<G: Gate>(&self, gate: &G, helper: &mut Helper, word: u64) -> bool
+        requires helper { IsHelperOf (pause_view self.now) helper.old }
+        requires inside { (FIRST_ADDRESS ≤ word) × (word < FIRST_ADDRESS + bytes_of self.now.marker.now) }
+        ensures visits { Visits (pause_view self.now) word helper.old helper.new }
+        ensures stray { TellsStray (found_in self.now.map.now) (bytes_of self.now.marker.now) (word ∷ []) result }
+    {
         let Some(found) = self.map.find(word) else {
             return true;
         };
         let granule = self.granule(found);
-        // A look is cheaper than a claim, and most words point into marked objects.
+        // A look is cheaper than a claim, and many words point into marked objects.
         if self.table.is_set(&mut helper.claimer, granule) {
             return false;
         }
