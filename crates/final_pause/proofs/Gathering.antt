@@ -1,5 +1,5 @@
 -- What helpers know, won and made dirty is put together.
-use Rattle.std.proofs.Common.{◌≡◌, ℕ, ◌+◌, ◌*◌, ◌%◌, ◌<◌, ◌≤◌, List, Bool, true, Contains, Option, Some, None, length, get_or, refl, sym, ap, subst, ◌∙◌, inl, inr, ⊎_elim, mod-lt, arith}
+use Rattle.std.proofs.Common.{◌≡◌, ℕ, ◌+◌, ◌*◌, ◌/◌, ◌%◌, ◌<◌, ◌≤◌, List, Bool, true, Contains, Option, Some, None, length, get_or, refl, sym, ap, subst, ◌∙◌, inl, inr, ⊎_elim, mod-lt, arith}
 use Rattle.std.specs.Prelude.{◌⊎◌}
 use Rattle.std.proofs.lemmas.Bool.{cases_eq, cases_lt, true≢false}
 use Rattle.std.proofs.lemmas.List.{get_or_default}
@@ -30,23 +30,19 @@ use Rattle.final_pause.specs.declared.helper.Helper.{Helper}
 use Rattle.final_pause.specs.Pauses.{PauseView}
 use Rattle.final_pause.specs.Helping.{found, word_in, IsTargetKnown, IsWordRead}
 use Rattle.final_pause.specs.Dealing.{rank}
-use Rattle.final_pause.specs.Serving.{IsReachable, IsEntryRead, HasServed}
-use Rattle.final_pause.specs.Gathering.{AreNumbered, IsPlaceRead, HasGathered}
+use Rattle.final_pause.specs.Serving.{IsReachable, IsEntryRead, IsShareRead, HasServed}
+use Rattle.final_pause.specs.Gathering.{AreNumbered, HasGathered}
 use Rattle.final_pause.specs.Rounds.{DirtiesNew}
 use Rattle.final_pause.proofs.Knowing.{none_in}
 use Rattle.final_pause.proofs.Growing.{word_more}
 use Rattle.final_pause.proofs.Serving.{share_more}
 
--- each helper was run, and each had the share of its place
-pub served_at : {p : PauseView} {old new : List Helper} → HaveRun (λ a b. HasServed p a.share.place b) old new → AreNumbered old → (i : ℕ) (d : Helper) → i < length new → HasServed p i (get_or new i d)
+-- each helper was run, and each had its place
+pub served_at : {p : PauseView} {old new : List Helper} → HaveRun (λ a b. HasServed p a.place b) old new → AreNumbered old → (i : ℕ) (d : Helper) → i < length new → HasServed p i (get_or new i d)
 served_at {p} {old} {new} run numbered i d lt =
     let size = run.size in
     let lt' : i < length old = omega (arith, lt, size) in
     subst (λ (s : ℕ). HasServed p s (get_or new i d)) (numbered i d lt') (run.each i d d lt')
-
--- what was dealt to a place stays read where more is known
-place_more : (p : PauseView) (v w : ClaimerView) (c d : List Bool) → ((k : ℕ) → knows v k ≡ true → knows w k ≡ true) → ((q : ℕ) → Has c q → Has d q) → (place : ℕ) → IsPlaceRead p v c place → IsPlaceRead p w d place
-place_more p v w c d more carried place h = record { share = h.share; here = h.here; dealt = h.dealt; read = share_more p v w c d more carried h.share h.read }
 
 module _ (p : PauseView) where
   -- one more helper is joined
@@ -82,8 +78,8 @@ module _ (p : PauseView) where
         strays = λ q c. ⊎_elim (λ a. g.strays q a) (λ a. s.serving.strays q a) (each_carried q c);
         within = λ k c. ⊎_elim (λ a. g.within k a) (λ a. s.serving.within k a) (of_either k c);
         shares = λ n le lt. ⊎_elim
-            (λ (e : n ≡ low). record { share = h.share; here = s.here ∙ sym e; dealt = s.serving.fits.dealt; read = share_more p (view h.claimer) (view first') h.carried carried' right more_carried h.share s.read })
-            (λ ne. place_more p (view first) (view first') carried carried' left old_carried n (g.shares n (omega (arith, le, ne)) lt))
+            (λ (e : n ≡ low). subst (IsShareRead p (view first') carried') (sym e) (share_more p (view h.claimer) (view first') h.carried carried' right more_carried low s.read))
+            (λ ne. share_more p (view first) (view first') carried carried' left old_carried n (g.shares n (omega (arith, le, ne)) lt))
             (cases_eq n low);
       }
 
@@ -115,17 +111,17 @@ module _ {p : PauseView} (first : Claimer) (dirty carried : List Bool) (new : Ma
       let at = entry_in old q.entry q.one in
       let turn : ℕ = at.0 + page_of (word_address f i) in
       let place = g.shares (turn % p.helpers) (omega arith) (mod-lt turn some) in
-      let read : IsEntryRead p (view first) carried place.share.place at.0 q.entry = subst (IsEntryRead p (view first) carried place.share.place at.0) at.2 (place.read.entries at.0 q.entry at.1) in
-      read f o (sym q.same) n m i q.left lt (sym place.here)
+      let read : IsEntryRead p (view first) carried (turn % p.helpers) at.0 q.entry = subst (IsEntryRead p (view first) carried (turn % p.helpers) at.0) at.2 (place.entries at.0 q.entry at.1) in
+      read f o (sym q.same) n m i q.left lt refl
 
   read_dirty : (f : Found) → found p f.base ≡ Some f → f.kind ≡ Normal → IsMarked old f.base → (i : ℕ) → i < f.len → Has old.dirty (page_of (word_address f i)) → IsWordRead p (view first) carried f i
   read_dirty f o n m i lt d =
       let page : ℕ = page_of (word_address f i) in
       let inside : page < length p.map = (let l = has_inside old.dirty page d in omega (arith, l, pages)) in
       let above = (map.placed f.base f o).above in
-      let turn : ℕ = rank old.dirty page in
+      let turn : ℕ = rank old.dirty page + granule f.base / 16 in
       let place = g.shares (turn % p.helpers) (omega arith) (mod-lt turn some) in
-      place.read.pages page inside (place.dealt.pages_of page d (sym place.here)) f o n m i lt (omega (arith, above)) (omega (arith, above))
+      place.pages page inside d f o n m refl i lt (omega (arith, above)) (omega (arith, above))
 
   -- the number of pages is the same
   pages_same : length new.dirty ≡ length old.dirty
@@ -180,7 +176,7 @@ module _ {p : PauseView} (first : Claimer) (dirty carried : List Bool) (new : Ma
   pub gathered_roots : AreRootsMarked (found p) p.roots new
   gathered_roots w (i, lt, e) =
       let k : IsTargetKnown p (view first) (get_or p.roots i 0) =
-      let place = g.shares (i % p.helpers) (omega arith) (mod-lt i some) in place.read.roots i lt (sym place.here) in
+      let place = g.shares (i % p.helpers) (omega arith) (mod-lt i some) in place.roots i lt refl in
       target w (subst (λ (n : ℕ). IsTargetKnown p (view first) n) (get_or_default p.roots i 0 w lt ∙ e) k)
 
   -- each dirty page is one of a newly marked object

@@ -47,7 +47,7 @@ module _ (p : PauseView) where
   pub extends_refl : (h : Helper) → IsOf p.table h.claimer → HelperGrows p h h
   extends_refl h of = record {
     of = of;
-    share = refl;
+    place = refl;
     learns = record { right = refl; known = λ k e. e };
     won = λ k c. c;
     dirty_len = refl;
@@ -77,7 +77,7 @@ module _ (p : PauseView) where
   pub extends_trans : (a b c : Helper) → HelperGrows p a b → HelperGrows p b c → HelperGrows p a c
   extends_trans a b c x y = record {
     of = y.of;
-    share = y.share ∙ x.share;
+    place = y.place ∙ x.place;
     learns = record { right = y.learns.right ∙ x.learns.right; known = λ k h. y.learns.known k (x.learns.known k h) };
     won = λ k h. y.won k (x.won k h);
     dirty_len = y.dirty_len ∙ x.dirty_len;
@@ -128,14 +128,14 @@ module _ (p : PauseView) where
       ⊎_elim (λ low. omega (arith, low, from, above)) (λ high. omega (arith, high, below, end, pages)) out)
 
   -- the object was marked by another, or before
-  pub visit_old : (w : ℕ) (g : Found) (old new : Helper) → found p w ≡ Some g → IsOf p.table new.claimer → new.waiting ≡ old.waiting → new.dirty ≡ old.dirty → new.carried ≡ old.carried → new.share ≡ old.share
+  pub visit_old : (w : ℕ) (g : Found) (old new : Helper) → found p w ≡ Some g → IsOf p.table new.claimer → new.waiting ≡ old.waiting → new.dirty ≡ old.dirty → new.carried ≡ old.carried → new.place ≡ old.place
       → LearnsMore (view old.claimer) (view new.claimer) → knows (view new.claimer) (granule g.base) ≡ true → won_of new ≡ won_of old → Visits p w old new
   visit_old w g old new e of st di ca sh le kn wo =
       let u = unknown_le (length (start_of p.table)) (view old.claimer) (view new.claimer) le.known in
       let s : length new.waiting ≡ length old.waiting = ap (λ s. length s) st in record {
         extends = record {
           of = of;
-          share = sh;
+          place = sh;
           learns = le;
           won = λ k c. subst (λ l. Contains l k) (sym wo) c;
           dirty_len = ap length di;
@@ -158,7 +158,7 @@ module _ (p : PauseView) where
 
   -- the claim was the first, and the object waits to be read
   pub visit_new : (w : ℕ) (g : Found) (old mid new : Helper) → IsMap (length p.map) (found p) → length (start_of p.table) ≡ PAGE_GRANULES * length p.map → found p w ≡ Some g
-      → IsOf p.table mid.claimer → mid.waiting ≡ old.waiting → mid.dirty ≡ old.dirty → mid.carried ≡ old.carried → mid.share ≡ old.share
+      → IsOf p.table mid.claimer → mid.waiting ≡ old.waiting → mid.dirty ≡ old.dirty → mid.carried ≡ old.carried → mid.place ≡ old.place
       → LearnsMore (view old.claimer) (view mid.claimer) → knows (view mid.claimer) (granule g.base) ≡ true → knows (view old.claimer) (granule g.base) ≡ false → won_of mid ≡ granule g.base ∷ won_of old
       → QueuesObject g mid new → Visits p w old new
   visit_new w g old mid new map size e of st di ca sh le kn un wo keep =
@@ -173,7 +173,7 @@ module _ (p : PauseView) where
       let won' : Contains (won_of new) (granule g.base) = subst (λ l. Contains l (granule g.base)) (sym same) (contains_here (granule g.base) (won_of old)) in record {
         extends = record {
           of = subst (IsOf p.table) (sym keep.claimer) of;
-          share = keep.share ∙ sh;
+          place = keep.place ∙ sh;
           learns = le';
           won = λ k c. subst (λ l. Contains l k) (sym same) (contains_more (granule g.base) k (won_of old) c);
           dirty_len = keep.dirty_len ∙ ap length di;
@@ -230,11 +230,11 @@ module _ (p : PauseView) where
   }
 
   -- a page has become carried, and nothing else has changed
-  extends_carried : (b c : Helper) → IsOf p.table b.claimer → c.claimer ≡ b.claimer → c.waiting ≡ b.waiting → c.dirty ≡ b.dirty → c.share ≡ b.share → length c.carried ≡ length b.carried → ((q : ℕ) → Has b.carried q → Has c.carried q)
+  extends_carried : (b c : Helper) → IsOf p.table b.claimer → c.claimer ≡ b.claimer → c.waiting ≡ b.waiting → c.dirty ≡ b.dirty → c.place ≡ b.place → length c.carried ≡ length b.carried → ((q : ℕ) → Has b.carried q → Has c.carried q)
       → HelperGrows p b c
   extends_carried b c of cl st di sh size more = record {
     of = subst (IsOf p.table) (sym cl) of;
-    share = sh;
+    place = sh;
     learns = record { right = ap (λ h. (view h).right) cl; known = λ k e. ap (λ h. knows (view h) k) cl ∙ e };
     won = λ k h. subst (λ d. Contains (view d).won k) (sym cl) h;
     dirty_len = ap length di;
@@ -259,7 +259,7 @@ module _ (p : PauseView) where
 
   -- words of an object that lie in a row on one page, which was carried then or not
   pub reads_run : (f : Found) (first n page : ℕ) (a b c : Helper) → first + n ≤ f.len → ((i : ℕ) → first ≤ i → i < first + n → page_of (word_address f i) ≡ page) → VisitsAll p (words_from p.memory f first n) a b
-      → c.claimer ≡ b.claimer → c.waiting ≡ b.waiting → c.dirty ≡ b.dirty → c.share ≡ b.share → CarriesPage (found p) (bytes_of p.marker) (words_from p.memory f first n) page b.carried c.carried → ReadsWords p f first n a c
+      → c.claimer ≡ b.claimer → c.waiting ≡ b.waiting → c.dirty ≡ b.dirty → c.place ≡ b.place → CarriesPage (found p) (bytes_of p.marker) (words_from p.memory f first n) page b.carried c.carried → ReadsWords p f first n a c
   reads_run f first n page a b c fits one_page v cl st di sh carries = record {
     extends = extends_trans a b c v.extends (extends_carried b c v.extends.of cl st di sh carries.len carries.stays);
     read = λ i le lt.

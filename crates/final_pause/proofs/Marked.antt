@@ -51,46 +51,51 @@ granule_finds p page g b is from below = found_cut p.map page (FIRST_ADDRESS + G
 
 module _ (p : PauseView) (map : IsMap (length p.map) (found p)) where
   -- none of these granules was marked
-  pub objects_none : (v : ClaimerView) (c : List Bool) (low past : ℕ) → ((k : ℕ) → low ≤ k → k < past → Has p.marker.marks k → ⊥) → AreObjectsRead p v c low past
-  objects_none v c low past none f o n m from below i lt = absurd (none (granule f.base) from below m)
+  pub objects_none : (v : ClaimerView) (c : List Bool) (place number low past : ℕ) → ((k : ℕ) → low ≤ k → k < past → Has p.marker.marks k → ⊥) → AreObjectsRead p v c place number low past
+  objects_none v c place number low past none f o n m turn from below i lt = absurd (none (granule f.base) from below m)
 
   -- no object begins at this granule
-  pub objects_other : (v : ClaimerView) (c : List Bool) (g : ℕ) → ((f : Found) → found p (FIRST_ADDRESS + GRANULE_BYTES * g) ≡ Some f → f.base ≡ FIRST_ADDRESS + GRANULE_BYTES * g → ⊥) → AreObjectsRead p v c g (g + 1)
-  objects_other v c g none f o n m from below i lt =
+  pub objects_other : (v : ClaimerView) (c : List Bool) (place number g : ℕ) → ((f : Found) → found p (FIRST_ADDRESS + GRANULE_BYTES * g) ≡ Some f → f.base ≡ FIRST_ADDRESS + GRANULE_BYTES * g → ⊥) → AreObjectsRead p v c place number g (g + 1)
+  objects_other v c place number g none f o n m turn from below i lt =
       let placed = map.placed f.base f o in let above = placed.above in let aligned = placed.aligned in
       let base : f.base ≡ FIRST_ADDRESS + GRANULE_BYTES * g = omega arith in
       absurd (none f (sym (ap (found p) base) ∙ o) base)
 
+  -- the object that begins at this granule is another's to read
+  pub objects_skip : (v : ClaimerView) (c : List Bool) (place number g : ℕ) → ((number + g / 16) % p.helpers ≡ place → ⊥) → AreObjectsRead p v c place number g (g + 1)
+  objects_skip v c place number g other f o n m turn from below i lt =
+      let at : granule f.base ≡ g = omega (arith, from, below) in absurd (other (subst (λ (k : ℕ). (number + k / 16) % p.helpers ≡ place) at turn))
+
   -- the words of the object that begins at this granule were read
-  pub objects_one : (v : ClaimerView) (c : List Bool) (g : ℕ) (f : Found) → found p f.base ≡ Some f → granule f.base ≡ g → ((i : ℕ) → i < f.len → IsWordRead p v c f i) → AreObjectsRead p v c g (g + 1)
-  objects_one v c g f is at read h o n m from below i lt =
+  pub objects_one : (v : ClaimerView) (c : List Bool) (place number g : ℕ) (f : Found) → found p f.base ≡ Some f → granule f.base ≡ g → ((i : ℕ) → i < f.len → IsWordRead p v c f i) → AreObjectsRead p v c place number g (g + 1)
+  objects_one v c place number g f is at read h o n m turn from below i lt =
       let s : f ≡ h = same_object (length p.map) (found p) map f h is o (omega arith) in
       subst (λ (y : Found). i < y.len → IsWordRead p v c y i) s (read i) lt
 
   -- granules up to one, and then from it on
-  pub objects_append : (v : ClaimerView) (c : List Bool) (low at past : ℕ) → AreObjectsRead p v c low at → AreObjectsRead p v c at past → AreObjectsRead p v c low past
-  objects_append v c low at past a b f o n m from below i lt =
-      ⊎_elim (λ before. a f o n m from before i lt) (λ after. b f o n m after below i lt) (cases_lt (granule f.base) at)
+  pub objects_append : (v : ClaimerView) (c : List Bool) (place number low at past : ℕ) → AreObjectsRead p v c place number low at → AreObjectsRead p v c place number at past → AreObjectsRead p v c place number low past
+  objects_append v c place number low at past a b f o n m turn from below i lt =
+      ⊎_elim (λ before. a f o n m turn from before i lt) (λ after. b f o n m turn after below i lt) (cases_lt (granule f.base) at)
 
-  pub objects_more : (v w : ClaimerView) (c d : List Bool) → ((k : ℕ) → knows v k ≡ true → knows w k ≡ true) → ((q : ℕ) → Has c q → Has d q) → (low past : ℕ) → AreObjectsRead p v c low past → AreObjectsRead p w d low past
-  objects_more v w c d more carried low past h f o n m from below i lt = word_more p v w c d more carried f i (h f o n m from below i lt)
+  pub objects_more : (v w : ClaimerView) (c d : List Bool) → ((k : ℕ) → knows v k ≡ true → knows w k ≡ true) → ((q : ℕ) → Has c q → Has d q) → (place number low past : ℕ) → AreObjectsRead p v c place number low past → AreObjectsRead p w d place number low past
+  objects_more v w c d more carried place number low past h f o n m turn from below i lt = word_more p v w c d more carried f i (h f o n m turn from below i lt)
 
   -- granules that had no mark are passed, and then the object at a marked one was read
-  pub objects_next : (v w : ClaimerView) (c d : List Bool) → ((k : ℕ) → knows v k ≡ true → knows w k ≡ true) → ((q : ℕ) → Has c q → Has d q) → (low mid at past : ℕ) → past ≡ at + 1
-      → ((k : ℕ) → mid ≤ k → k < at → Has p.marker.marks k → ⊥) → AreObjectsRead p v c low mid → AreObjectsRead p w d at (at + 1) → AreObjectsRead p w d low past
-  objects_next v w c d more carried low mid at past end none x y =
-      let before = objects_append w d low mid at (objects_more v w c d more carried low mid x) (objects_none w d mid at none) in
-      subst (AreObjectsRead p w d low) (sym end) (objects_append w d low at (at + 1) before y)
+  pub objects_next : (v w : ClaimerView) (c d : List Bool) → ((k : ℕ) → knows v k ≡ true → knows w k ≡ true) → ((q : ℕ) → Has c q → Has d q) → (place number low mid at past : ℕ) → past ≡ at + 1
+      → ((k : ℕ) → mid ≤ k → k < at → Has p.marker.marks k → ⊥) → AreObjectsRead p v c place number low mid → AreObjectsRead p w d place number at (at + 1) → AreObjectsRead p w d place number low past
+  objects_next v w c d more carried place number low mid at past end none x y =
+      let before = objects_append w d place number low mid at (objects_more v w c d more carried place number low mid x) (objects_none w d place number mid at none) in
+      subst (AreObjectsRead p w d place number low) (sym end) (objects_append w d place number low at (at + 1) before y)
 
-  module _ (page : ℕ) (b : Cells) (is : state_at p.map page ≡ cut b) (v : ClaimerView) (c : List Bool) where
+  module _ (page : ℕ) (b : Cells) (is : state_at p.map page ≡ cut b) (v : ClaimerView) (c : List Bool) (place number : ℕ) where
     -- all objects that begin on a page that is cut, and so all of which a word stands there
-    pub objects_page : AreObjectsRead p v c (PAGE_GRANULES * page) (PAGE_GRANULES * (page + 1)) → IsPageRead p v c page
-    objects_page read f o n m i lt from below =
+    pub objects_page : AreObjectsRead p v c place number (PAGE_GRANULES * page) (PAGE_GRANULES * (page + 1)) → IsPageRead p v c place number page
+    objects_page read f o n m turn i lt from below =
         let base = cut_begins p.map page (word_address f i) b f is from below (reads_own (length p.map) (found p) map f i o lt) in
-        read f o n m (omega arith) (omega arith) i lt
+        read f o n m turn (omega arith) (omega arith) i lt
 
     -- the objects of a block of another kind
-    pub page_free : b.kind ≡ PointerFree → IsPageRead p v c page
-    page_free kind f o n m i lt from below =
+    pub page_free : b.kind ≡ PointerFree → IsPageRead p v c place number page
+    page_free kind f o n m turn i lt from below =
         let k = cut_kind p.map page (word_address f i) b f is from below (reads_own (length p.map) (found p) map f i o lt) in
         let z : PointerFree ≡ Normal = sym kind ∙ sym k ∙ n in absurd (cc z)

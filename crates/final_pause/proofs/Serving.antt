@@ -20,13 +20,12 @@ use Rattle.marker.specs.Growth.{IsStrayPage}
 use Rattle.marker.specs.declared.entry.Entry.{Entry}
 use Rattle.marker.proofs.Closures.{at_base, is_object}
 use Rattle.marker.proofs.Rescanning.{next_is, reads_own}
-use Rattle.final_pause.specs.declared.deal.Share.{Share}
 use Rattle.final_pause.specs.declared.helper.Helper.{Helper}
 use Rattle.final_pause.specs.Pauses.{PauseView}
-use Rattle.final_pause.specs.Dealing.{IsDealt}
+use Rattle.final_pause.specs.Dealing.{rank}
 use Rattle.final_pause.specs.Waiting.{IsTaken}
 use Rattle.final_pause.specs.Helping.{found, won_of, IsReadyPause, IsHelperOf, HelperGrows, IsWordRead, IsAwaitedBy, QueuesObject, AreWon, HasStrayOn, IsPointedInto, ClaimsOnly, IsWordOf, Visits, ReadsWords}
-use Rattle.final_pause.specs.Serving.{IsReachable, IsReachedAt, IsQueuedAt, IsServing, GoesOnServing, IsRunRead, IsEntryRead, AreRootsRead, AreEntriesRead, AreWordsRead, ArePagesRead, IsShareRead, IsHired}
+use Rattle.final_pause.specs.Serving.{IsReachable, IsReachedAt, IsQueuedAt, IsServing, GoesOnServing, IsRunRead, IsEntryRead, AreRootsRead, AreEntriesRead, IsTurn, AreWordsRead, ArePagesRead, IsShareRead, IsHired}
 use Rattle.final_pause.proofs.Knowing.{none_in}
 use Rattle.final_pause.proofs.Growing.{target_more, word_more, awaited_more, page_more}
 
@@ -41,7 +40,6 @@ module _ (p : PauseView) where
     of = x.of;
     dirty = x.dirty_len ∙ f.dirty;
     carried = x.carried_len ∙ f.carried;
-    dealt = subst (IsDealt p.marker p.helpers) (sym x.share) f.dealt;
   }
 
   -- a word that a helper has read stays read as it goes on
@@ -49,10 +47,10 @@ module _ (p : PauseView) where
   word_on a b x = word_more p (view a.claimer) (view b.claimer) a.carried b.carried x.learns.known x.carried
 
   -- a helper keeps its part of the right
-  part_on : (a b : Helper) → b.share ≡ a.share → (view b.claimer).right ≡ (view a.claimer).right → HasPart (view a.claimer) (a.share.place + 1) → HasPart (view b.claimer) (b.share.place + 1)
-  part_on a b share right part =
-      subst (λ (r : ℕ × ℕ). doubled r.0 (b.share.place + 1) ≡ doubled 1 r.1) (sym right)
-      (subst (λ (s : Share). doubled (view a.claimer).right.0 (s.place + 1) ≡ doubled 1 (view a.claimer).right.1) (sym share) part)
+  part_on : (a b : Helper) → b.place ≡ a.place → (view b.claimer).right ≡ (view a.claimer).right → HasPart (view a.claimer) (a.place + 1) → HasPart (view b.claimer) (b.place + 1)
+  part_on a b place right part =
+      subst (λ (r : ℕ × ℕ). doubled r.0 (b.place + 1) ≡ doubled 1 r.1) (sym right)
+      (subst (λ (n : ℕ). doubled (view a.claimer).right.0 (n + 1) ≡ doubled 1 (view a.claimer).right.1) (sym place) part)
 
   -- a stray word of a reached Normal object makes its page one
   pub stray_on : (f : Found) → found p f.base ≡ Some f → f.kind ≡ Normal → IsReachable p f → (q : ℕ) → HasStrayOn p f q → IsStrayPage (found p) p.memory p.roots p.marker q
@@ -76,7 +74,7 @@ module _ (p : PauseView) where
     pub serves_more : HelperGrows p a b → ((q : ℕ) → Has b.carried q → Has a.carried q ⊎ IsStrayPage (found p) p.memory p.roots p.marker q) → IsServing p a → IsServing p b
     serves_more x strays s = record {
       fits = fits_more a b x s.fits;
-      part = part_on a b x.share x.learns.right s.part;
+      part = part_on a b x.place x.learns.right s.part;
       won = λ f o n c i lt. ⊎_elim
           (λ h. ⊎_elim (λ k. inl (word_on a b x f i k)) (λ w. inr (awaited_more p a b x f i w)) (s.won f o n h i lt))
           (λ h. inr (h n i lt)) (x.fresh f o c);
@@ -95,12 +93,12 @@ module _ (p : PauseView) where
       record { aligned = omega arith; above = omega arith; below = omega arith }
 
   pub serves_refl : (h : Helper) → IsServing p h → GoesOnServing p h h
-  serves_refl h s = record { serving = s; share = refl; learns = record { right = refl; known = λ k e. e }; carried = λ q h. h }
+  serves_refl h s = record { serving = s; place = refl; learns = record { right = refl; known = λ k e. e }; carried = λ q h. h }
 
   -- a helper that is hired owes nothing yet
-  pub serves_hired : IsReadyPause p → (h : Helper) → IsHired p.table p.marker p.helpers h → IsServing p h
+  pub serves_hired : IsReadyPause p → (h : Helper) → IsHired p.table (length p.map) h → IsServing p h
   serves_hired ready h x = record {
-    fits = record { ready = ready; of = x.of; dirty = x.dirty.size ∙ ready.pages; carried = x.carried.size ∙ ready.pages; dealt = x.dealt };
+    fits = record { ready = ready; of = x.of; dirty = x.dirty.size; carried = x.carried.size };
     part = x.part;
     won = λ f o n c i lt. absurd (none_in (won_of h) (granule f.base) x.none_won c);
     dirtied = λ q d. absurd (true≢false (sym d ∙ x.dirty.clear q));
@@ -113,7 +111,7 @@ module _ (p : PauseView) where
   pub serves_trans : (a b c : Helper) → GoesOnServing p a b → GoesOnServing p b c → GoesOnServing p a c
   serves_trans a b c x y = record {
     serving = y.serving;
-    share = y.share ∙ x.share;
+    place = y.place ∙ x.place;
     learns = record { right = y.learns.right ∙ x.learns.right; known = λ k e. y.learns.known k (x.learns.known k e) };
     carried = λ q h. y.carried q (x.carried q h);
   }
@@ -122,7 +120,7 @@ module _ (p : PauseView) where
   pub serves_visit : IsMap (length p.map) (found p) → (w : ℕ) (a b : Helper) → ((g : Found) → found p w ≡ Some g → IsReachable p g) → Visits p w a b → IsServing p a → GoesOnServing p a b
   serves_visit map w a b reach v s = record {
     serving = serves_more map (λ n. n ≡ w) (λ n is f e. reach f (subst (λ (m : ℕ). found p m ≡ Some f) is e)) a b v.only v.extends (λ q h. inl (subst (λ r. Has r q) v.carried h)) s;
-    share = v.extends.share;
+    place = v.extends.place;
     learns = v.extends.learns;
     carried = v.extends.carried;
   }
@@ -132,14 +130,14 @@ module _ (p : PauseView) where
   serves_words map f first n a b reached normal r s = record {
     serving = serves_more map (IsWordOf p f) (reached_word f reached normal) a b r.only r.extends
         (λ q h. ⊎_elim (λ o. inl o) (λ w. inr (stray_on f (is_object (length p.map) (found p) p.memory p.roots (IsMarked p.marker) map reached) normal reached q w)) (r.strays q h)) s;
-    share = r.extends.share;
+    place = r.extends.place;
     learns = r.extends.learns;
     carried = r.extends.carried;
   }
 
   -- one that waited is taken out
   module _ (map : IsMap (length p.map) (found p)) (a m : Helper) (base : ℕ) (f : Found)
-      (claimer : m.claimer ≡ a.claimer) (dirty : m.dirty ≡ a.dirty) (carried : m.carried ≡ a.carried) (share : m.share ≡ a.share) (taken : IsTaken a.waiting base m.waiting)
+      (claimer : m.claimer ≡ a.claimer) (dirty : m.dirty ≡ a.dirty) (carried : m.carried ≡ a.carried) (place : m.place ≡ a.place) (taken : IsTaken a.waiting base m.waiting)
       (is : found p base ≡ Some f) (s : IsServing p a) where
     base_in : Contains a.waiting base
     base_in = taken.was
@@ -203,8 +201,8 @@ module _ (p : PauseView) where
 
       serving_pop : IsServing p b
       serving_pop = record {
-        fits = record { ready = s.fits.ready; of = x.of; dirty = x.dirty_len ∙ (ap length dirty ∙ s.fits.dirty); carried = x.carried_len ∙ (ap length carried ∙ s.fits.carried); dealt = subst (IsDealt p.marker p.helpers) (sym (x.share ∙ share)) s.fits.dealt };
-        part = part_on a b (x.share ∙ share) (x.learns.right ∙ ap (λ c. (view c).right) claimer) s.part;
+        fits = record { ready = s.fits.ready; of = x.of; dirty = x.dirty_len ∙ (ap length dirty ∙ s.fits.dirty); carried = x.carried_len ∙ (ap length carried ∙ s.fits.carried) };
+        part = part_on a b (x.place ∙ place) (x.learns.right ∙ ap (λ c. (view c).right) claimer) s.part;
         won = λ g o n c i lt. ⊎_elim
             (λ h. ⊎_elim
             (λ k. inl (word_more p (view a.claimer) (view b.claimer) a.carried b.carried known carried_on g i k))
@@ -226,7 +224,7 @@ module _ (p : PauseView) where
       pub serves_pop : GoesOnServing p a b
       serves_pop = record {
         serving = serving_pop;
-        share = x.share ∙ share;
+        place = x.place ∙ place;
         learns = record { right = x.learns.right ∙ ap (λ c. (view c).right) claimer; known = known };
         carried = carried_on;
       }
@@ -261,8 +259,8 @@ module _ (p : PauseView) where
 
       serving_left : IsServing p b
       serving_left = record {
-        fits = record { ready = s.fits.ready; of = subst (IsOf p.table) (sym cl) s.fits.of; dirty = y.dirty_len ∙ (ap length dirty ∙ s.fits.dirty); carried = ap length ca ∙ s.fits.carried; dealt = subst (IsDealt p.marker p.helpers) (sym (y.share ∙ share)) s.fits.dealt };
-        part = part_on a b (y.share ∙ share) (ap (λ c. (view c).right) cl) s.part;
+        fits = record { ready = s.fits.ready; of = subst (IsOf p.table) (sym cl) s.fits.of; dirty = y.dirty_len ∙ (ap length dirty ∙ s.fits.dirty); carried = ap length ca ∙ s.fits.carried };
+        part = part_on a b (y.place ∙ place) (ap (λ c. (view c).right) cl) s.part;
         won = λ g o n c i lt. ⊎_elim (λ k. inl (word_still g i k)) (λ w. inr (awaits g o n i lt w)) (s.won g o n (won_still _ c) i lt);
         dirtied = λ q h. ⊎_elim
             (λ d. page_more p a b won_too q (s.dirtied q (subst (λ d. Has d q) dirty d)))
@@ -277,7 +275,7 @@ module _ (p : PauseView) where
       pub serves_left : GoesOnServing p a b
       serves_left = record {
         serving = serving_left;
-        share = y.share ∙ share;
+        place = y.place ∙ place;
         learns = record { right = ap (λ c. (view c).right) cl; known = λ k e. ap (λ c. knows (view c) k) cl ∙ e };
         carried = λ q h. subst (λ c. Has c q) (sym ca) h;
       }
@@ -296,32 +294,32 @@ module _ (p : PauseView) where
     pub entries_more : (place n : ℕ) → AreEntriesRead p v c place n → AreEntriesRead p w d place n
     entries_more place n h i e lt = entry_more place i _ (h i e lt)
 
-    pub words_more : (low high : ℕ) → AreWordsRead p v c low high → AreWordsRead p w d low high
-    words_more low high h f o b m i lt from below = word_more p v w c d more carried f i (h f o b m i lt from below)
+    pub words_more : (place number low high : ℕ) → AreWordsRead p v c place number low high → AreWordsRead p w d place number low high
+    words_more place number low high h f o b m turn i lt from below = word_more p v w c d more carried f i (h f o b m turn i lt from below)
 
-    pub pages_more : (row : List Bool) (n : ℕ) → ArePagesRead p v c row n → ArePagesRead p w d row n
-    pages_more row n h page lt is = words_more (page_start page) (page_start (page + 1)) (h page lt is)
+    pub pages_more : (place n : ℕ) → ArePagesRead p v c place n → ArePagesRead p w d place n
+    pages_more place n h page lt is = words_more place (rank p.marker.dirty page) (page_start page) (page_start (page + 1)) (h page lt is)
 
-    pub share_more : (share : Share) → IsShareRead p v c share → IsShareRead p w d share
-    share_more share h = record {
-      roots = roots_more v w more share.place _ h.roots;
-      entries = entries_more share.place _ h.entries;
-      pages = pages_more share.pages _ h.pages;
+    pub share_more : (place : ℕ) → IsShareRead p v c place → IsShareRead p w d place
+    share_more place h = record {
+      roots = roots_more v w more place _ h.roots;
+      entries = entries_more place _ h.entries;
+      pages = pages_more place _ h.pages;
     }
 
   -- words of one object that were read are those of the next object between two addresses
-  pub part_read : IsMap (length p.map) (found p) → (v : ClaimerView) (c : List Bool) (low high stop : ℕ) (g : Found) → IsNextObject (found p) low high g → stop ≤ g.base + WORD_BYTES * g.len
-      → (g.kind ≡ Normal → IsMarked p.marker g.base → (i : ℕ) → i < g.len → low ≤ word_address g i → word_address g i < stop → IsWordRead p v c g i) → AreWordsRead p v c low stop
-  part_read map v c low high stop g next le read f o n m i lt from below =
+  pub part_read : IsMap (length p.map) (found p) → (v : ClaimerView) (c : List Bool) (place number low high stop : ℕ) (g : Found) → IsNextObject (found p) low high g → stop ≤ g.base + WORD_BYTES * g.len
+      → (g.kind ≡ Normal → IsMarked p.marker g.base → IsTurn p place number g → (i : ℕ) → i < g.len → low ≤ word_address g i → word_address g i < stop → IsWordRead p v c g i) → AreWordsRead p v c place number low stop
+  part_read map v c place number low high stop g next le read f o n m turn i lt from below =
       let is : g ≡ f = next_is (length p.map) (found p) low high stop (word_address f i) g f map next le from below (reads_own (length p.map) (found p) map f i o lt) in
-      subst (λ (y : Found). y.kind ≡ Normal → IsMarked p.marker y.base → (j : ℕ) → j < y.len → low ≤ word_address y j → word_address y j < stop → IsWordRead p v c y j) is read n m i lt from below
+      subst (λ (y : Found). y.kind ≡ Normal → IsMarked p.marker y.base → IsTurn p place number y → (j : ℕ) → j < y.len → low ≤ word_address y j → word_address y j < stop → IsWordRead p v c y j) is read n m turn i lt from below
 
   -- words up to an address, and then words from it on
-  pub words_append : (v : ClaimerView) (c : List Bool) (low at high : ℕ) → AreWordsRead p v c low at → AreWordsRead p v c at high → AreWordsRead p v c low high
-  words_append v c low at high a b f o n m i lt from below =
-      ⊎_elim (λ before. a f o n m i lt from before) (λ after. b f o n m i lt after below) (cases_lt (word_address f i) at)
+  pub words_append : (v : ClaimerView) (c : List Bool) (place number low at high : ℕ) → AreWordsRead p v c place number low at → AreWordsRead p v c place number at high → AreWordsRead p v c place number low high
+  words_append v c place number low at high a b f o n m turn i lt from below =
+      ⊎_elim (λ before. a f o n m turn i lt from before) (λ after. b f o n m turn i lt after below) (cases_lt (word_address f i) at)
 
   -- no object is left
-  pub words_end : IsMap (length p.map) (found p) → (v : ClaimerView) (c : List Bool) (low high : ℕ) → IsNoObject (found p) low high → AreWordsRead p v c low high
-  words_end map v c low high none f o n m i lt from below =
+  pub words_end : IsMap (length p.map) (found p) → (v : ClaimerView) (c : List Bool) (place number low high : ℕ) → IsNoObject (found p) low high → AreWordsRead p v c place number low high
+  words_end map v c place number low high none f o n m turn i lt from below =
       let z : None ≡ Some f = sym (none.none (word_address f i) from below) ∙ reads_own (length p.map) (found p) map f i o lt in absurd (cc z)

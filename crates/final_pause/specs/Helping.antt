@@ -15,7 +15,6 @@ use Rattle.marker.specs.Marking.{Covers, bytes_of, word_address}
 use Rattle.marker.specs.Growth.{IsStray}
 use Rattle.final_pause.specs.declared.helper.Helper.{Helper}
 use Rattle.final_pause.specs.Pauses.{PauseView}
-use Rattle.final_pause.specs.Dealing.{IsDealt}
 
 -- the object that a word points into
 abbrev pub found : PauseView → ℕ → Option Found
@@ -52,7 +51,6 @@ pub record IsHelperOf (p : PauseView) (h : Helper) : Type 0 where
   pub of : IsOf p.table h.claimer
   pub dirty : length h.dirty ≡ length p.map
   pub carried : length h.carried ≡ length p.map
-  pub dealt : IsDealt p.marker p.helpers h.share
 
 -- the object that the word points into, if any, is known to be marked
 abbrev pub IsTargetKnown : PauseView → ClaimerView → ℕ → Type 0
@@ -89,7 +87,7 @@ IsPageOfWon p h q = (f : Found) × (found p f.base ≡ Some f) × Contains (won_
 -- an object waits to be read, and nothing else has changed
 pub record QueuesObject (f : Found) (old new : Helper) : Type 0 where
   pub claimer : new.claimer ≡ old.claimer
-  pub share : new.share ≡ old.share
+  pub place : new.place ≡ old.place
   pub carried : new.carried ≡ old.carried
   pub dirty_len : length new.dirty ≡ length old.dirty
   pub dirty : (q : ℕ) → Has old.dirty q → Has new.dirty q
@@ -116,7 +114,7 @@ reads_left p h = 2 * unknown (length (start_of p.table)) (view h.claimer) + leng
 -- these have become dirty, and it won what waits, if it had won what waited.
 pub record HelperGrows (p : PauseView) (old new : Helper) : Type 0 where
   pub of : IsOf p.table new.claimer
-  pub share : new.share ≡ old.share
+  pub place : new.place ≡ old.place
   pub learns : LearnsMore (view old.claimer) (view new.claimer)
   pub won : (k : ℕ) → Contains (won_of old) k → Contains (won_of new) k
   pub dirty_len : length new.dirty ≡ length old.dirty

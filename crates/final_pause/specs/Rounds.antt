@@ -23,7 +23,7 @@ pub record IsRound (p : PauseView) (r : Round) : Type 0 where
 -- helpers of places in a row, from one on, are at work
 pub record AreServing (p : PauseView) (from : ℕ) (crew : List Helper) : Type 0 where
   pub each : (i : ℕ) (d : Helper) → i < length crew → IsServing p (slice_index_or crew i d)
-  pub numbered : (i : ℕ) (d : Helper) → i < length crew → (slice_index_or crew i d).share.place ≡ from + i
+  pub numbered : (i : ℕ) (d : Helper) → i < length crew → (slice_index_or crew i d).place ≡ from + i
 
 -- and each has done its share
 abbrev pub AreServed : PauseView → ℕ → List Helper → Type 0

@@ -1,5 +1,5 @@
 -- A helper at work and at its end.
-use Rattle.std.specs.Prelude.{◌≡◌, ℕ, ◌+◌, ◌%◌, ◌<◌, ◌≤◌, Bool, List, [], length, slice_index_or, slice_index, Contains, Some, ◌⊎◌}
+use Rattle.std.specs.Prelude.{◌≡◌, ℕ, ◌+◌, ◌/◌, ◌%◌, ◌<◌, ◌≤◌, Bool, List, [], length, slice_index_or, slice_index, Contains, Some, ◌⊎◌}
 use Rattle.words.specs.declared.class.Kind.TheVariants.{Normal}
 use Rattle.words.specs.Bits.{Has, IsClear}
 use Rattle.words.specs.Layout.{granule, page_of, page_start}
@@ -9,13 +9,12 @@ use Rattle.mark_bits.specs.Claims.{HasPart, LearnsMore}
 use Rattle.mark_bits.specs.declared.table.MarkTable.{MarkTable}
 use Rattle.block_map.specs.declared.found.Found.{Found}
 use Rattle.marker.specs.declared.entry.Entry.{Entry}
-use Rattle.marker.specs.Marking.{Marking, IsMarked, entries, word_address}
+use Rattle.marker.specs.Marking.{IsMarked, entries, word_address}
 use Rattle.marker.specs.Closure.{Closure}
 use Rattle.marker.specs.Growth.{IsStrayPage}
-use Rattle.final_pause.specs.declared.deal.Share.{Share}
 use Rattle.final_pause.specs.declared.helper.Helper.{Helper}
 use Rattle.final_pause.specs.Pauses.{PauseView}
-use Rattle.final_pause.specs.Dealing.{IsDealt}
+use Rattle.final_pause.specs.Dealing.{rank}
 use Rattle.final_pause.specs.Helping.{IsHelperOf, IsTargetKnown, IsWordRead, IsAwaitedBy, IsPageOfWon, AreWon, found, won_of}
 
 -- what the marks before and the roots reach
@@ -42,7 +41,7 @@ pub record IsQueuedAt (p : PauseView) (base : ℕ) : Type 0 where
 -- waits.
 pub record IsServing (p : PauseView) (h : Helper) : Type 0 where
   pub fits : IsHelperOf p h
-  pub part : HasPart (view h.claimer) (h.share.place + 1)
+  pub part : HasPart (view h.claimer) (h.place + 1)
   pub won : (f : Found) → found p f.base ≡ Some f → f.kind ≡ Normal → Contains (won_of h) (granule f.base) → (i : ℕ) → i < f.len
       → IsWordRead p (view h.claimer) h.carried f i ⊎ IsAwaitedBy h f i
   pub dirtied : (q : ℕ) → Has h.dirty q → IsPageOfWon p h q
@@ -69,52 +68,55 @@ AreRootsRead p v place n = (i : ℕ) → i < n → i % p.helpers ≡ place → I
 abbrev pub AreEntriesRead : PauseView → ClaimerView → List Bool → ℕ → ℕ → Type 0
 AreEntriesRead p v carried place n = (i : ℕ) (d : Entry) → i < n → IsEntryRead p v carried place i (slice_index_or (entries p.marker) i d)
 
--- the words between two addresses were read, if they are words of Normal objects that were marked before
-abbrev pub AreWordsRead : PauseView → ClaimerView → List Bool → ℕ → ℕ → Type 0
-AreWordsRead p v carried low high = (f : Found) → found p f.base ≡ Some f → f.kind ≡ Normal → IsMarked p.marker f.base
+-- The turn of an object on the dirty page of a number is the place's. What begins within 256 bytes has one turn.
+abbrev pub IsTurn : PauseView → ℕ → ℕ → Found → Type 0
+IsTurn p place number f = (number + granule f.base / 16) % p.helpers ≡ place
+
+-- the words between two addresses were read, if they are words of Normal objects that were marked before, whose turn is the place's
+abbrev pub AreWordsRead : PauseView → ClaimerView → List Bool → ℕ → ℕ → ℕ → ℕ → Type 0
+AreWordsRead p v carried place number low high = (f : Found) → found p f.base ≡ Some f → f.kind ≡ Normal → IsMarked p.marker f.base → IsTurn p place number f
     → (i : ℕ) → i < f.len → low ≤ word_address f i → word_address f i < high → IsWordRead p v carried f i
 
--- the same for the words of a page
-abbrev pub IsPageRead : PauseView → ClaimerView → List Bool → ℕ → Type 0
-IsPageRead p v carried page = AreWordsRead p v carried (page_start page) (page_start (page + 1))
+-- the same for the words of the dirty page of a number
+abbrev pub IsPageRead : PauseView → ClaimerView → List Bool → ℕ → ℕ → ℕ → Type 0
+IsPageRead p v carried place number page = AreWordsRead p v carried place number (page_start page) (page_start (page + 1))
 
--- the words of the Normal objects that were marked before and begin at these granules were read
-abbrev pub AreObjectsRead : PauseView → ClaimerView → List Bool → ℕ → ℕ → Type 0
-AreObjectsRead p v carried low past = (f : Found) → found p f.base ≡ Some f → f.kind ≡ Normal → IsMarked p.marker f.base
+-- the words of the Normal objects that were marked before, begin at these granules and whose turn is the place's were read
+abbrev pub AreObjectsRead : PauseView → ClaimerView → List Bool → ℕ → ℕ → ℕ → ℕ → Type 0
+AreObjectsRead p v carried place number low past = (f : Found) → found p f.base ≡ Some f → f.kind ≡ Normal → IsMarked p.marker f.base → IsTurn p place number f
     → low ≤ granule f.base → granule f.base < past → (i : ℕ) → i < f.len → IsWordRead p v carried f i
 
--- those of the first n pages that are in the row were read
-abbrev pub ArePagesRead : PauseView → ClaimerView → List Bool → List Bool → ℕ → Type 0
-ArePagesRead p v carried row n = (page : ℕ) → page < n → Has row page → IsPageRead p v carried page
+-- the place's parts of the dirty ones of the first n pages were read
+abbrev pub ArePagesRead : PauseView → ClaimerView → List Bool → ℕ → ℕ → Type 0
+ArePagesRead p v carried place n = (page : ℕ) → page < n → Has p.marker.dirty page → IsPageRead p v carried place (rank p.marker.dirty page) page
 
--- The root words and the parts of entries of the share's place, and the pages that were dealt to it, were read. Root word i is that
--- of the place i modulo the number of helpers.
-pub record IsShareRead (p : PauseView) (v : ClaimerView) (carried : List Bool) (share : Share) : Type 0 where
-  pub roots : AreRootsRead p v share.place (length p.roots)
-  pub entries : AreEntriesRead p v carried share.place (length (entries p.marker))
-  pub pages : ArePagesRead p v carried share.pages (length p.map)
+-- The place's root words, and its parts of the entries and of the dirty pages, were read. Root word i is that of the place i modulo the
+-- number of helpers.
+pub record IsShareRead (p : PauseView) (v : ClaimerView) (carried : List Bool) (place : ℕ) : Type 0 where
+  pub roots : AreRootsRead p v place (length p.roots)
+  pub entries : AreEntriesRead p v carried place (length (entries p.marker))
+  pub pages : ArePagesRead p v carried place (length p.map)
 
 -- The helper of a place that is done: it serves, nothing waits, and its share is read; so each word of a Normal object
 -- that it won was read, or stands on a dirty page of its row.
 pub record HasServed (p : PauseView) (place : ℕ) (h : Helper) : Type 0 where
   pub serving : IsServing p h
-  pub here : h.share.place ≡ place
+  pub here : h.place ≡ place
   pub empty : h.waiting ≡ []
-  pub read : IsShareRead p (view h.claimer) h.carried h.share
+  pub read : IsShareRead p (view h.claimer) h.carried place
 
--- a helper at work goes on, and keeps its share
+-- a helper at work goes on, and keeps its place
 pub record GoesOnServing (p : PauseView) (old new : Helper) : Type 0 where
   pub serving : IsServing p new
-  pub share : new.share ≡ old.share
+  pub place : new.place ≡ old.place
   pub learns : LearnsMore (view old.claimer) (view new.claimer)
   pub carried : (q : ℕ) → Has old.carried q → Has new.carried q
 
--- one of so many helpers of a table, which has won nothing, and has read nothing of what was dealt to it
-pub record IsHired (t : MarkTable) (m : Marking) (helpers : ℕ) (h : Helper) : Type 0 where
+-- one of the helpers of a table, of a heap of so many pages, which has won and read nothing yet
+pub record IsHired (t : MarkTable) (pages : ℕ) (h : Helper) : Type 0 where
   pub of : IsOf t h.claimer
-  pub part : HasPart (view h.claimer) (h.share.place + 1)
+  pub part : HasPart (view h.claimer) (h.place + 1)
   pub none_won : won_of h ≡ []
-  pub dirty : IsClear h.dirty (length m.dirty)
-  pub carried : IsClear h.carried (length m.dirty)
+  pub dirty : IsClear h.dirty pages
+  pub carried : IsClear h.carried pages
   pub no_entry : h.waiting ≡ []
-  pub dealt : IsDealt m helpers h.share

@@ -9,85 +9,70 @@ ghost use Rattle.final_pause.specs.Serving.{IsHired, HasServed};
 ghost use Rattle.final_pause.specs.Pauses.{pause_view};
 ghost use Rattle.final_pause.specs.Gathering.{AreNumbered, HasGathered};
 
-use crate::deal::deal;
 use crate::gate::FIRST_HELPER;
 use crate::helper::Helper;
 use crate::share::Pause;
 use crate::waiting::Waiting;
 use dirty_pages::DirtyPages;
 use mark_bits::{Claimer, MarkTable};
-use marker::Marker;
 use std::alloc::{AllocError, Global};
 use words::limits::{MAX_HELPERS, MOST_PAGES};
 
-// The helper of one place, which has its share and has read nothing yet.
+// The helper of one place, which has read nothing yet.
 fn new_helper(
     alloc: Global,
     table: &MarkTable,
-    marker: &Marker,
     pages: u32,
     first: &mut Claimer,
     place: u8,
-    helpers: u8,
 ) -> Result<Helper, AllocError>
     requires of { IsOf table.now first.old }
     requires part { HasPart (view first.old) place }
-    requires pages { pages ≡ length marker.now.dirty }
     requires small { pages ≤ MOST_PAGES }
-    requires place { place < helpers }
-    requires few { helpers ≤ MAX_HELPERS }
+    requires few { place < MAX_HELPERS }
     ensures of { IsOf table.now first.new }
-    ensures place { IfOk result (λ h. h.share.place ≡ place) }
+    ensures place { IfOk result (λ h. h.place ≡ place) }
     ensures part { IfOk result (λ h. HasPart (view first.new) (place + 1)) }
     ensures won { (view first.new).won ≡ (view first.old).won }
-    ensures hired { IfOk result (λ h. IsHired table.now marker.now helpers h) }
+    ensures hired { IfOk result (λ h. IsHired table.now pages h) }
 {
     let dirty = DirtyPages::new(alloc, pages)?;
     let carried = DirtyPages::new(alloc, pages)?;
-    let share = deal(
-        alloc,
-        marker,
-        pages,
-        usize::from(place),
-        usize::from(helpers),
-    )?;
     let claimer = table.split(first);
     Ok(Helper {
         claimer,
         waiting: Waiting::new(),
         dirty,
         carried,
-        share,
+        place: usize::from(place),
         left: u64::MAX,
         actor: FIRST_HELPER + place,
         call: 0,
     })
 }
 
-/// Deals all that is left to read to so many helpers, cuts off a claimer for each, and takes all their memory.
+/// Makes so many helpers of a heap of so many pages: cuts off a claimer for each, and takes all their memory.
 pub(crate) fn hire(
     alloc: Global,
     table: &MarkTable,
-    marker: &Marker,
     pages: u32,
     first: &mut Claimer,
     helpers: u8,
 ) -> Result<Vec<Helper>, AllocError>
     requires of { IsOf table.now first.old }
     requires all { HasAll (view first.old) }
-    requires pages { pages ≡ length marker.now.dirty }
     requires small { pages ≤ MOST_PAGES }
     requires few { helpers ≤ MAX_HELPERS }
     ensures of { IfOk result (λ v. IsOf table.now first.new) }
     ensures won { (view first.new).won ≡ (view first.old).won }
     ensures size { IfOk result (λ v. vec_len v ≡ helpers) }
     ensures part { IfOk result (λ v. HasPart (view first.new) helpers) }
-    ensures hired { IfOk result (λ v. All (λ h. IsHired table.now marker.now helpers h) v.items) }
+    ensures hired { IfOk result (λ v. All (λ h. IsHired table.now pages h) v.items) }
     ensures numbered { IfOk result (λ v. AreNumbered v.items) }
 {
     let mut crew = Vec::with_capacity(alloc, helpers as usize)?;
     for place in 0..helpers {
-        crew.push(new_helper(alloc, table, marker, pages, first, place, helpers)?)?;
+        crew.push(new_helper(alloc, table, pages, first, place)?)?;
     }
     Ok(crew)
 }
@@ -120,7 +105,7 @@ fn take_in(
         waiting: _,
         dirty: more,
         carried: carried_more,
-        share: _,
+        place: _,
         left: _,
         actor: _,
         call: _,

@@ -56,10 +56,10 @@ impl<'a> Pause<'a> {
         requires one_page { (i : ℕ) → first ≤ i → i < first + count → page_of (word_address found i) ≡ page_of (word_address found first) }
         requires few { number ≤ MARK_STACK_ENTRIES }
         ensures serves { GoesOnServing (pause_view self.now) helper.old helper.new }
-        ensures read { IsRunRead (pause_view self.now) (view helper.new.claimer) helper.new.carried helper.old.share.place number found first (first + count) }
+        ensures read { IsRunRead (pause_view self.now) (view helper.new.claimer) helper.new.carried helper.old.place number found first (first + count) }
     {
         let page = page_of(found.base + WORD_BYTES * u64::from(first)) as usize;
-        if (number + page) % self.helpers != helper.share.place {
+        if (number + page) % self.helpers != helper.place {
             return;
         }
         self.read_run(gate, helper, found, first, count);
@@ -71,7 +71,7 @@ impl<'a> Pause<'a> {
         requires serving { IsServing (pause_view self.now) helper.old }
         requires few { number ≤ MARK_STACK_ENTRIES }
         ensures serves { GoesOnServing (pause_view self.now) helper.old helper.new }
-        ensures read { IsEntryRead (pause_view self.now) (view helper.new.claimer) helper.new.carried helper.old.share.place number entry }
+        ensures read { IsEntryRead (pause_view self.now) (view helper.new.claimer) helper.new.carried helper.old.place number entry }
     {
         let Some(found) = self.marker.unread(self.map, entry) else {
             return;
@@ -90,7 +90,7 @@ impl<'a> Pause<'a> {
     pub(crate) fn read_entries<G: Gate>(&self, gate: &G, helper: &mut Helper)
         requires { IsServing (pause_view self.now) helper.old }
         ensures serves { GoesOnServing (pause_view self.now) helper.old helper.new }
-        ensures read { AreEntriesRead (pause_view self.now) (view helper.new.claimer) helper.new.carried helper.old.share.place (length (entries self.now.marker.now)) }
+        ensures read { AreEntriesRead (pause_view self.now) (view helper.new.claimer) helper.new.carried helper.old.place (length (entries self.now.marker.now)) }
     {
         self.marker.laws();
         let mut number = 0;

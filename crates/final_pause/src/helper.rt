@@ -6,7 +6,6 @@ ghost use Rattle.mark_bits.specs.Claims.{knows, LearnsMore};
 ghost use Rattle.block_map.specs.Objects.{IsPlaced};
 ghost use Rattle.final_pause.specs.Helping.{QueuesObject};
 
-use crate::deal::Share;
 use crate::gate::Gate;
 use crate::waiting::Waiting;
 use block_map::Found;
@@ -16,7 +15,7 @@ use marker::dirty_object;
 use words::{Kind, PageNo};
 
 /// What one helper marks with: its claimer, the objects that it won and still has to read, the pages of those that
-/// found no room, the pages that it carries, its share, how many words of objects that it won it may still read, its number for the
+/// found no room, the pages that it carries, its place, how many words of objects that it won it may still read, its number for the
 /// gate, and how many claims it has made.
 #[derive(Drop)]
 pub struct Helper {
@@ -24,7 +23,7 @@ pub struct Helper {
     pub(crate) waiting: Waiting,
     pub(crate) dirty: DirtyPages,
     pub(crate) carried: DirtyPages,
-    pub(crate) share: Share,
+    pub(crate) place: usize,
     pub(crate) left: u64,
     pub(crate) actor: u8,
     pub(crate) call: u32,
@@ -33,9 +32,9 @@ pub struct Helper {
 impl Helper {
     /// Its place among the helpers of its round.
     pub fn place(&self) -> usize
-        ensures { result ≡ self.now.share.place }
+        ensures { result ≡ self.now.place }
     {
-        self.share.place
+        self.place
     }
 }
 
@@ -52,7 +51,7 @@ pub(crate) fn claim<G: Gate>(
     ensures waiting { helper.new.waiting ≡ helper.old.waiting }
     ensures dirty { helper.new.dirty ≡ helper.old.dirty }
     ensures carried { helper.new.carried ≡ helper.old.carried }
-    ensures share { helper.new.share ≡ helper.old.share }
+    ensures place { helper.new.place ≡ helper.old.place }
     ensures learns { LearnsMore (view helper.old.claimer) (view helper.new.claimer) }
     ensures known { knows (view helper.new.claimer) granule ≡ true }
     ensures won { (view helper.new.claimer).won ≡ (if result then granule ∷ (view helper.old.claimer).won else (view helper.old.claimer).won) }
@@ -98,7 +97,7 @@ pub(crate) fn carry(helper: &mut Helper, page: PageNo)
     ensures waiting { helper.new.waiting ≡ helper.old.waiting }
     ensures dirty { helper.new.dirty ≡ helper.old.dirty }
     ensures carried { helper.new.carried ≡ slice_set helper.old.carried page true }
-    ensures share { helper.new.share ≡ helper.old.share }
+    ensures place { helper.new.place ≡ helper.old.place }
 {
     helper.carried.set(page);
 }

@@ -10,7 +10,6 @@
 mod alone;
 mod before;
 mod crew;
-mod deal;
 mod entries;
 mod gate;
 mod helper;

@@ -1,4 +1,8 @@
-//! The dirty pages that were dealt to a helper.
+//! The dirty pages, which the helpers read together.
+//!
+//! They are numbered from the first one on. Of the page of a number a helper reads the objects of which that number and that of the 256
+//! bytes in which the object begins are together its place, modulo the number of helpers. So the parts are even, however few pages there
+//! are.
 //!
 //! A helper reads of a dirty page the objects that were marked before the helpers started: whoever wins an object after that
 //! sees to its words himself, wherever it lies. So the marks that are asked here are the marker's own, which nobody changes
@@ -6,14 +10,15 @@
 //!
 //! On a page that is cut, their bits tell where these objects begin and the page's block what they are, with no look-up and
 //! no look at any other object. On another page stands one object at most.
-ghost use Rattle.std.specs.Prelude.{◌≡◌, ◌+◌, ◌*◌, ◌%◌, ◌<◌, ◌≤◌, true, length};
+ghost use Rattle.std.specs.Prelude.{◌≡◌, ◌+◌, ◌*◌, ◌/◌, ◌%◌, ◌<◌, ◌≤◌, ◌↔◌, true, length};
 ghost use Rattle.words.specs.Bits.{Has};
 ghost use Rattle.words.specs.declared.class.Kind.TheVariants.{Normal};
-ghost use Rattle.words.specs.declared.limits.TheConstants.{PAGE_GRANULES, WORD_BYTES};
+ghost use Rattle.words.specs.declared.limits.TheConstants.{MOST_PAGES, PAGE_GRANULES, WORD_BYTES};
 ghost use Rattle.mark_bits.specs.Tables.{view};
 ghost use Rattle.block_map.specs.FoundIn.{found_in};
 ghost use Rattle.block_map.specs.States.{cut, state_at};
 ghost use Rattle.block_map.specs.Walks.{IsNextObject};
+ghost use Rattle.final_pause.specs.Dealing.{rank};
 ghost use Rattle.final_pause.specs.Pauses.{pause_view};
 ghost use Rattle.final_pause.specs.Serving.{IsServing, GoesOnServing, AreWordsRead, AreObjectsRead, IsPageRead, ArePagesRead};
 
@@ -24,14 +29,28 @@ use block_map::{Found, object_from};
 use blocks::Block;
 use marker::part_between;
 use words::limits::{FIRST_ADDRESS, GRANULE_BYTES, PAGE_BYTES, PAGE_GRANULES};
-use words::{Kind, PageNo, page_start};
+use words::{Kind, PageNo, granule_of, page_start};
+
+// The granules in a row of which the objects that begin there have one turn.
+const TURN: usize = 16;
 
 // The words of 64 mark bits that a page has.
 const MARK_WORDS: usize = (PAGE_GRANULES / 64) as usize;
 
 impl<'a> Pause<'a> {
+    // Whether the object that begins at a granule is the helper's to read, on the dirty page of a number.
+    #[inline]
+    fn is_turn(&self, helper: &Helper, number: usize, granule: usize) -> bool
+        requires some { 0 < self.now.helpers }
+        requires few { number ≤ MOST_PAGES }
+        requires inside { granule ≤ PAGE_GRANULES * MOST_PAGES }
+        ensures { (result ≡ true) ↔ ((number + granule / 16) % self.now.helpers ≡ helper.now.place) }
+    {
+        (number + granule / TURN) % self.helpers == helper.place
+    }
+
     // Reads the words of the next object on a page that stand between two addresses, if it was a marked Normal one before
-    // the helpers started. Answers the first address past them.
+    // the helpers started and it is the helper's turn. Answers the first address past them.
     fn read_part<G: Gate>(
         &self,
         gate: &G,
@@ -39,19 +58,24 @@ impl<'a> Pause<'a> {
         found: Found,
         low: u64,
         high: u64,
+        number: usize,
     ) -> u64
         requires serving { IsServing (pause_view self.now) helper.old }
         requires next { IsNextObject (found_in self.now.map.now) low high found }
         requires low { low % WORD_BYTES ≡ 0 }
         requires high { high % WORD_BYTES ≡ 0 }
+        requires few { number ≤ MOST_PAGES }
         ensures serves { GoesOnServing (pause_view self.now) helper.old helper.new }
-        ensures read { AreWordsRead (pause_view self.now) (view helper.new.claimer) helper.new.carried low result }
+        ensures read { AreWordsRead (pause_view self.now) (view helper.new.claimer) helper.new.carried helper.old.place number low result }
         ensures further { low < result }
         ensures within { result ≤ high }
         ensures aligned { result % WORD_BYTES ≡ 0 }
     {
         let part = part_between(found, low, high);
         if found.kind == Kind::PointerFree {
+            return part.stop;
+        }
+        if !self.is_turn(helper, number, granule_of(found.base)) {
             return part.stop;
         }
         if !self.marker.is_marked(found.base) {
@@ -62,21 +86,22 @@ impl<'a> Pause<'a> {
     }
 
     // Reads the words on a page of all objects that were marked Normal ones before the helpers started, object by object.
-    fn read_objects<G: Gate>(&self, gate: &G, helper: &mut Helper, page: PageNo)
+    fn read_objects<G: Gate>(&self, gate: &G, helper: &mut Helper, page: PageNo, number: usize)
         requires serving { IsServing (pause_view self.now) helper.old }
         requires inside { page < length self.now.map.now }
+        requires few { number ≤ MOST_PAGES }
         ensures serves { GoesOnServing (pause_view self.now) helper.old helper.new }
-        ensures read { IsPageRead (pause_view self.now) (view helper.new.claimer) helper.new.carried page }
+        ensures read { IsPageRead (pause_view self.now) (view helper.new.claimer) helper.new.carried helper.old.place number page }
     {
         let mut address = page_start(page);
         let end = address + PAGE_BYTES;
         while let Some(found) = self.map.next_on_page(page, address) {
-            address = self.read_part(gate, helper, found, address, end);
+            address = self.read_part(gate, helper, found, address, end, number);
         }
     }
 
     // Reads the words of the object of a block that begins at a granule that was marked before the helpers started, if one
-    // does.
+    // does and it is the helper's turn.
     #[inline]
     fn read_at<G: Gate>(
         &self,
@@ -85,6 +110,7 @@ impl<'a> Pause<'a> {
         page: PageNo,
         block: &Block,
         granule: usize,
+        number: usize,
     )
         requires serving { IsServing (pause_view self.now) helper.old }
         requires inside { page < length self.now.map.now }
@@ -92,9 +118,13 @@ impl<'a> Pause<'a> {
         requires normal { block.now.kind ≡ Normal }
         requires on { (PAGE_GRANULES * page ≤ granule) × (granule < PAGE_GRANULES * (page + 1)) }
         requires marked { Has self.now.marker.now.marks granule }
+        requires few { number ≤ MOST_PAGES }
         ensures serves { GoesOnServing (pause_view self.now) helper.old helper.new }
-        ensures read { AreObjectsRead (pause_view self.now) (view helper.new.claimer) helper.new.carried granule (granule + 1) }
+        ensures read { AreObjectsRead (pause_view self.now) (view helper.new.claimer) helper.new.carried helper.old.place number granule (granule + 1) }
     {
+        if !self.is_turn(helper, number, granule) {
+            return;
+        }
         let base = FIRST_ADDRESS + GRANULE_BYTES * granule as u64;
         let Some(found) = object_from(page, block, base) else {
             return;
@@ -112,76 +142,99 @@ impl<'a> Pause<'a> {
         page: PageNo,
         block: &Block,
         j: usize,
+        number: usize,
     )
         requires serving { IsServing (pause_view self.now) helper.old }
         requires inside { page < length self.now.map.now }
         requires cut { state_at self.now.map.now page ≡ cut block.now }
         requires normal { block.now.kind ≡ Normal }
         requires on { (PAGE_GRANULES * page ≤ 64 * j) × (64 * (j + 1) ≤ PAGE_GRANULES * (page + 1)) }
+        requires few { number ≤ MOST_PAGES }
         ensures serves { GoesOnServing (pause_view self.now) helper.old helper.new }
-        ensures read { AreObjectsRead (pause_view self.now) (view helper.new.claimer) helper.new.carried (64 * j) (64 * (j + 1)) }
+        ensures read { AreObjectsRead (pause_view self.now) (view helper.new.claimer) helper.new.carried helper.old.place number (64 * j) (64 * (j + 1)) }
     {
         let marks = self.marker.mark_row().as_words()[j];
         let mut rest = marks;
         while rest != 0 {
             let granule = 64 * j + rest.trailing_zeros() as usize;
-            self.read_at(gate, helper, page, block, granule);
+            self.read_at(gate, helper, page, block, granule, number);
             rest &= rest - 1;
         }
     }
 
     // Reads the words on a page that is cut of all objects that were marked Normal ones before the helpers started.
-    fn read_cells<G: Gate>(&self, gate: &G, helper: &mut Helper, page: PageNo, block: &Block)
+    fn read_cells<G: Gate>(
+        &self,
+        gate: &G,
+        helper: &mut Helper,
+        page: PageNo,
+        block: &Block,
+        number: usize,
+    )
         requires serving { IsServing (pause_view self.now) helper.old }
         requires inside { page < length self.now.map.now }
         requires cut { state_at self.now.map.now page ≡ cut block.now }
+        requires few { number ≤ MOST_PAGES }
         ensures serves { GoesOnServing (pause_view self.now) helper.old helper.new }
-        ensures read { IsPageRead (pause_view self.now) (view helper.new.claimer) helper.new.carried page }
+        ensures read { IsPageRead (pause_view self.now) (view helper.new.claimer) helper.new.carried helper.old.place number page }
     {
         if block.kind() == Kind::PointerFree {
             return;
         }
         let first = MARK_WORDS * page as usize;
         for j in first..first + MARK_WORDS {
-            self.read_marked(gate, helper, page, block, j);
+            self.read_marked(gate, helper, page, block, j, number);
         }
     }
 
-    // Reads the words on a page of all objects that were marked Normal ones before the helpers started.
-    fn read_page<G: Gate>(&self, gate: &G, helper: &mut Helper, page: PageNo)
+    // Reads the helper's part of the dirty page of a number.
+    fn read_page<G: Gate>(&self, gate: &G, helper: &mut Helper, page: PageNo, number: usize)
         requires serving { IsServing (pause_view self.now) helper.old }
         requires inside { page < length self.now.map.now }
+        requires few { number ≤ MOST_PAGES }
         ensures serves { GoesOnServing (pause_view self.now) helper.old helper.new }
-        ensures read { IsPageRead (pause_view self.now) (view helper.new.claimer) helper.new.carried page }
+        ensures read { IsPageRead (pause_view self.now) (view helper.new.claimer) helper.new.carried helper.old.place number page }
     {
         match self.map.block(page) {
-            Some(block) => self.read_cells(gate, helper, page, block),
-            None => self.read_objects(gate, helper, page),
+            Some(block) => self.read_cells(gate, helper, page, block, number),
+            None => self.read_objects(gate, helper, page, number),
         }
     }
 
-    // Reads a page with what it leads to, if it was dealt to the helper.
-    fn read_dealt<G: Gate>(&self, gate: &G, helper: &mut Helper, page: PageNo)
+    // Reads the helper's part of a page, if it is dirty. Answers how many dirty ones there are up to it.
+    fn read_dirty<G: Gate>(
+        &self,
+        gate: &G,
+        helper: &mut Helper,
+        page: PageNo,
+        number: usize,
+    ) -> usize
         requires serving { IsServing (pause_view self.now) helper.old }
         requires inside { page < length self.now.map.now }
+        requires number { number ≡ rank self.now.marker.now.dirty page }
+        requires few { number ≤ page }
         ensures serves { GoesOnServing (pause_view self.now) helper.old helper.new }
-        ensures read { Has helper.old.share.pages page → IsPageRead (pause_view self.now) (view helper.new.claimer) helper.new.carried page }
+        ensures read { Has self.now.marker.now.dirty page → IsPageRead (pause_view self.now) (view helper.new.claimer) helper.new.carried helper.old.place number page }
+        ensures count { result ≡ rank self.now.marker.now.dirty (page + 1) }
+        ensures few { result ≤ page + 1 }
     {
-        if !helper.share.pages.is_dirty(page) {
-            return;
+        if !self.marker.dirty_pages().is_dirty(page) {
+            return number;
         }
-        self.read_page(gate, helper, page);
+        self.read_page(gate, helper, page, number);
         self.make_room(gate, helper);
+        number + 1
     }
 
-    /// Reads the pages that were dealt to the helper, each with what it leads to. Past the used ones there is no object.
+    /// Reads the helper's part of the dirty pages. Past the used ones there is no object.
     pub(crate) fn read_pages<G: Gate>(&self, gate: &G, helper: &mut Helper)
         requires { IsServing (pause_view self.now) helper.old }
         ensures serves { GoesOnServing (pause_view self.now) helper.old helper.new }
-        ensures read { ArePagesRead (pause_view self.now) (view helper.new.claimer) helper.new.carried helper.old.share.pages (length self.now.map.now) }
+        ensures read { ArePagesRead (pause_view self.now) (view helper.new.claimer) helper.new.carried helper.old.place (length self.now.map.now) }
     {
+        let mut number = 0;
         for page in 0..self.map.used() {
-            self.read_dealt(gate, helper, page);
+            number = self.read_dirty(gate, helper, page, number);
         }
     }
 }

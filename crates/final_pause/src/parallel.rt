@@ -30,7 +30,7 @@ impl<'a> Law<Helper> for Pause<'a> {
     ghost use Rattle.final_pause.specs.Pauses.{pause_view};
     ghost use Rattle.final_pause.specs.Serving.{HasServed};
 
-    ghost does = { λ p old new. HasServed (pause_view p) old.share.place new };
+    ghost does = { λ p old new. HasServed (pause_view p) old.place new };
 }
 
 // All helpers do their shares, the last on the calling thread and each other in a thread of its own. The error is that memory or a
@@ -43,11 +43,11 @@ fn help_each<R: Threads + Wait + Sync, G: Gate>(
     crew: Vec<Helper>,
 ) -> Result<Vec<Helper>, AllocError>
     requires { All (λ h. IsServing (pause_view pause.now) h) crew.items }
-    ensures { IfOk result (λ v. HaveRun (λ old new. HasServed (pause_view pause.now) old.share.place new) crew.items v.items) }
+    ensures { IfOk result (λ v. HaveRun (λ old new. HasServed (pause_view pause.now) old.place new) crew.items v.items) }
 {
     let work = |helper|
         requires { IsServing (pause_view pause.now) helper }
-        ensures { HasServed (pause_view pause.entry.now) helper.share.place result }
+        ensures { HasServed (pause_view pause.entry.now) helper.place result }
     {
         let mut helper = helper;
         pause.help(gate, &mut helper);

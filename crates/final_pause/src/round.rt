@@ -66,7 +66,7 @@ impl Round {
         let dirty = DirtyPages::new(alloc, pages)?;
         let carried = DirtyPages::new(alloc, pages)?;
         let helpers = helpers.number();
-        let crew = hire(alloc, &table, marker, pages, &mut first, helpers)?;
+        let crew = hire(alloc, &table, pages, &mut first, helpers)?;
         let round = Round {
             table,
             first,
@@ -117,7 +117,7 @@ impl Round {
         helper: &mut Helper,
     ) -> u64
         requires { IsServing (round_view self.now marker.now map.now memory.now roots.now) helper.old }
-        ensures { HasServed (round_view self.now marker.now map.now memory.now roots.now) helper.old.share.place helper.new }
+        ensures { HasServed (round_view self.now marker.now map.now memory.now roots.now) helper.old.place helper.new }
     {
         helper.left = most;
         self.pause(marker, map, memory, roots).help(&Open, helper);

@@ -159,10 +159,10 @@ impl<'a> Pause<'a> {
     fn read_roots<G: Gate>(&self, gate: &G, helper: &mut Helper)
         requires { IsServing (pause_view self.now) helper.old }
         ensures serves { GoesOnServing (pause_view self.now) helper.old helper.new }
-        ensures roots { AreRootsRead (pause_view self.now) (view helper.new.claimer) helper.old.share.place (length self.now.roots.now) }
+        ensures roots { AreRootsRead (pause_view self.now) (view helper.new.claimer) helper.old.place (length self.now.roots.now) }
     {
         for i in 0..self.roots.len() {
-            if i % self.helpers == helper.share.place {
+            if i % self.helpers == helper.place {
                 self.visit(gate, helper, self.roots[i]);
             }
         }
@@ -201,7 +201,7 @@ impl<'a> Pause<'a> {
     /// A helper's whole work: the root words of its place before anything else, what was dealt to it, and all that these lead to.
     pub(crate) fn help<G: Gate>(&self, gate: &G, helper: &mut Helper)
         requires { IsServing (pause_view self.now) helper.old }
-        ensures { HasServed (pause_view self.now) helper.old.share.place helper.new }
+        ensures { HasServed (pause_view self.now) helper.old.place helper.new }
     {
         self.read_roots(gate, helper);
         self.read_entries(gate, helper);

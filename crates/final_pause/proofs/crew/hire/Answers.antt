@@ -7,7 +7,7 @@ use Rattle.final_pause.proofs.crew.hire.Goals as goal
 
 pub loop-place-preserved : goal.loop-place-preserved
 loop-place-preserved c =
-    let hired = λ (h : Helper). IsHired c.args.table.now c.args.marker.now c.args.helpers h in
+    let hired = λ (h : Helper). IsHired c.args.table.now c.args.pages h in
     record {
       of = search rules;
       won = search rules;

@@ -11,6 +11,6 @@ invariant-loop-place l = record {
   won : (view l.first).won ≡ (view l.initial.first).won;
   size : vec_len l.crew ≡ l.place;
   part : HasPart (view l.first) l.place;
-  hired : All (λ h. IsHired l.table l.marker l.helpers h) l.crew.items;
+  hired : All (λ h. IsHired l.table l.pages h) l.crew.items;
   numbered : AreNumbered l.crew.items;
 }

@@ -1,10 +1,8 @@
-use Rattle.std.proofs.Common.{ℕ, ◌+◌, sym, ap, subst, ◌∙◌}
-use Rattle.words.specs.Bits.{IsClear}
+use Rattle.std.proofs.Common.{ℕ, ◌+◌, sym, ap, subst}
 use Rattle.mark_bits.specs.declared.claimer_view.ClaimerView.{ClaimerView}
 use Rattle.mark_bits.specs.Claims.{HasPart}
 use Rattle.mark_bits.specs.Tables.{view}
 use Rattle.mark_bits.proofs.Halves.{part_kept, part_cut}
-use Rattle.final_pause.specs.Dealing.{IsDealt}
 use Rattle.final_pause.proofs.crew.new_helper.Goals as goal
 
 pub returns-clause-part : goal.returns-clause-part
@@ -13,14 +11,13 @@ returns-clause-part c =
 
 pub returns-clause-hired : goal.returns-clause-hired
 returns-clause-hired c =
-    let cut = c.split-claimer.ensures.cut in let pages = c.requires.pages in
+    let cut = c.split-claimer.ensures.cut in
     record {
       of = c.split-claimer.ensures.of.1;
-      part = subst (λ (n : ℕ). HasPart (view c.split-claimer.result) (n + 1)) (sym (c.in_ok-share.ensures.place ∙ c.from.ensures))
+      part = subst (λ (n : ℕ). HasPart (view c.split-claimer.result) (n + 1)) (sym c.from.ensures)
           (subst (λ (v : ClaimerView). HasPart v (c.args.place + 1)) (sym cut) (part_cut (view c.args.first.now) c.args.place c.requires.part));
       none_won = ap (λ (v : ClaimerView). v.won) cut;
-      dirty = subst (IsClear c.in_ok-dirty.dirty) pages c.in_ok-dirty.ensures;
-      carried = subst (IsClear c.in_ok-carried.carried) pages c.in_ok-carried.ensures;
+      dirty = c.in_ok-dirty.ensures;
+      carried = c.in_ok-carried.ensures;
       no_entry = c.new-3.ensures;
-      dealt = subst (λ (n : ℕ). IsDealt c.args.marker.now n c.in_ok-share.share) c.from-2.ensures c.in_ok-share.ensures.dealt;
     }

@@ -9,7 +9,7 @@ returns-else-not-put c =
     let put : IsPut c.args.helper.now.waiting c.args.found.base c.put.new.self = search rules in
     record {
       claimer = refl;
-      share = refl;
+      place = refl;
       carried = refl;
       dirty_len = refl;
       dirty = λ q h. h;

@@ -20,7 +20,7 @@ pub returns-in_default-clause-read : goal.returns-in_default-clause-read
 returns-in_default-clause-read g c =
     let p = pause_view c.args.self.now in let h = c.args.helper.now in
     let here = granule_finds p c.args.page c.args.granule c.args.block.now c.requires.cut c.requires.on.0 c.requires.on.1 in
-    objects_other p c.requires.serving.fits.ready.map (view h.claimer) h.carried c.args.granule (λ f e b. c.in_default.ensures.object f (sym here ∙ e) b)
+    objects_other p c.requires.serving.fits.ready.map (view h.claimer) h.carried c.args.helper.now.place c.args.number c.args.granule (λ f e b. c.in_default.ensures.object f (sym here ∙ e) b)
 
 pub read_run-requires-clause-object : goal.read_run-requires-clause-object
 read_run-requires-clause-object g c κs within =
@@ -54,5 +54,5 @@ returns-clause-read g c =
     let here = granule_finds p c.args.page c.args.granule c.args.block.now c.requires.cut c.requires.on.0 c.requires.on.1 in
     let base : c.in-Some.found.base ≡ FIRST_ADDRESS + GRANULE_BYTES * c.args.granule = object.1 in
     let h = c.read_run.new.helper in let len = c.from.ensures in
-    objects_one p map (view h.claimer) h.carried c.args.granule c.in-Some.found (at_base (length p.map) (found p) map _ c.in-Some.found (here ∙ object.0)) (omega arith)
+    objects_one p map (view h.claimer) h.carried c.args.helper.now.place c.args.number c.args.granule c.in-Some.found (at_base (length p.map) (found p) map _ c.in-Some.found (here ∙ object.0)) (omega arith)
     (λ i lt. c.read_run.ensures.read i (omega arith) (omega arith))

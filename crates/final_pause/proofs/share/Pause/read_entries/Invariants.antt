@@ -8,7 +8,7 @@ use Rattle.final_pause.proofs.share.Pause.read_entries.Given as goal
 abbrev pub invariant-loop-entry : goal.invariant-loop-entry
 invariant-loop-entry g l =
     GoesOnServing (pause_view l.self) l.fn.helper l.helper
-    × AreEntriesRead (pause_view l.self) (view l.helper.claimer) l.helper.carried l.fn.helper.share.place l.number
+    × AreEntriesRead (pause_view l.self) (view l.helper.claimer) l.helper.carried l.fn.helper.place l.number
 
 abbrev pub decreases-loop-entry : goal.decreases-loop-entry
 decreases-loop-entry g l = length (entries l.self.marker.now) - l.number

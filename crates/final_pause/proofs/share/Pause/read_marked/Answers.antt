@@ -1,9 +1,10 @@
-use Rattle.std.proofs.Common.{◌≡◌, ℕ, ◌+◌, ◌*◌, ◌<◌, length, ap, arith}
+use Rattle.std.proofs.Common.{◌≡◌, ℕ, ◌+◌, ◌*◌, ◌<◌, length, ap, subst, arith}
 use Rattle.std.specs.Int.{trailing_zeros, w64}
 use Rattle.blocks.proofs.Rests.{rest_all, rest_first, rest_more, rest_none}
 use Rattle.mark_bits.specs.Tables.{view}
 use Rattle.marker.proofs.Rereading.{mark_at, no_mark}
 use Rattle.final_pause.specs.Pauses.{pause_view}
+use Rattle.final_pause.specs.Serving.{AreObjectsRead}
 use Rattle.final_pause.proofs.Marked.{marks_len, bits_of_marks, objects_none, objects_append, objects_next}
 use Rattle.final_pause.proofs.Serving.{serves_refl, serves_trans}
 use Rattle.final_pause.proofs.share.Pause.read_marked.Goals as goal
@@ -20,7 +21,7 @@ loop-rest-init g c =
       serves_refl p h c.requires.serving,
       0,
       rest_all _,
-      objects_none p c.requires.serving.fits.ready.map (view h.claimer) h.carried (64 * c.args.j) (64 * c.args.j + 0) (λ k from below. absurd (omega arith)),
+      objects_none p c.requires.serving.fits.ready.map (view h.claimer) h.carried c.args.helper.now.place c.args.number (64 * c.args.j) (64 * c.args.j + 0) (λ k from below. absurd (omega arith)),
     )
 
 pub read_at-requires-clause-on : goal.read_at-requires-clause-on
@@ -47,19 +48,19 @@ loop-rest-preserved g c =
       serves_trans p c.args.helper.now h h' i.0 e.serves,
       t + 1,
       rest_more _ _ _ i.2 some (omega arith),
-      objects_next p map (view h.claimer) (view h'.claimer) h.carried h'.carried e.serves.learns.known e.serves.carried (64 * c.args.j) (64 * c.args.j + i.1) (64 * c.args.j + t) (64 * c.args.j + (t + 1)) (omega arith)
+      objects_next p map (view h.claimer) (view h'.claimer) h.carried h'.carried e.serves.learns.known e.serves.carried c.args.helper.now.place c.args.number (64 * c.args.j) (64 * c.args.j + i.1) (64 * c.args.j + t) (64 * c.args.j + (t + 1)) (omega arith)
           (no_mark p.marker.marks _ c.args.j i.1 t
           (bits_of_marks p c.requires.serving.fits.ready c.mark_row.result.now c.as_words.result.now c.args.page c.args.j c.mark_row.ensures c.as_words.ensures.bits c.requires.inside c.requires.on.1)
           (omega arith) first.least)
-          i.3 e.read,
+          i.3 (subst (λ (n : ℕ). AreObjectsRead p (view h'.claimer) h'.carried n c.args.number (64 * c.args.j + t) (64 * c.args.j + t + 1)) i.0.place e.read),
     )
 
 pub returns-clause-read : goal.returns-clause-read
 returns-clause-read g c =
     let p = pause_view c.args.self.now in let map = c.requires.serving.fits.ready.map in let i = c.loop-rest.invariant in let h = c.loop-rest.helper in
     let none = rest_none _ _ _ c.loop-rest-test.false i.2 in let few = i.2.few in
-    objects_append p map (view h.claimer) h.carried (64 * c.args.j) (64 * c.args.j + i.1) (64 * (c.args.j + 1)) i.3
-    (objects_none p map (view h.claimer) h.carried (64 * c.args.j + i.1) (64 * (c.args.j + 1))
+    objects_append p map (view h.claimer) h.carried c.args.helper.now.place c.args.number (64 * c.args.j) (64 * c.args.j + i.1) (64 * (c.args.j + 1)) i.3
+    (objects_none p map (view h.claimer) h.carried c.args.helper.now.place c.args.number (64 * c.args.j + i.1) (64 * (c.args.j + 1))
     (λ k from below. no_mark p.marker.marks _ c.args.j i.1 64
     (bits_of_marks p c.requires.serving.fits.ready c.mark_row.result.now c.as_words.result.now c.args.page c.args.j c.mark_row.ensures c.as_words.ensures.bits c.requires.inside c.requires.on.1)
     (omega arith) none.none k from (omega arith)))

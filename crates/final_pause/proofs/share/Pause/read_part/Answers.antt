@@ -1,4 +1,4 @@
-use Rattle.std.proofs.Common.{◌≡◌, ◌∙◌, true, length, sym, ap, rules, arith}
+use Rattle.std.proofs.Common.{◌≡◌, ℕ, ◌+◌, ◌/◌, ◌%◌, ◌∙◌, subst, true, length, sym, ap, rules, arith}
 use Rattle.words.specs.declared.class.Kind.TheVariants.{Normal, PointerFree}
 use Rattle.mark_bits.specs.Tables.{view}
 use Rattle.marker.specs.Closure.{held}
@@ -26,13 +26,21 @@ is_marked-requires-clause-inside g c =
 pub returns-then-eq-clause-read : goal.returns-then-eq-clause-read
 returns-then-eq-clause-read g c =
     let k : c.args.found.kind ≡ PointerFree = search rules in
-    part_read (pause_view c.args.self.now) c.requires.serving.fits.ready.map (view c.args.helper.now.claimer) c.args.helper.now.carried c.args.low c.args.high c.part_between-part.result.stop c.args.found c.requires.next c.part_between-part.ensures.inside
+    part_read (pause_view c.args.self.now) c.requires.serving.fits.ready.map (view c.args.helper.now.claimer) c.args.helper.now.carried c.args.helper.now.place c.args.number c.args.low c.args.high c.part_between-part.result.stop c.args.found c.requires.next c.part_between-part.ensures.inside
     (λ n. let x : PointerFree ≡ Normal = sym k ∙ n in absurd (cc x))
+
+pub granule_of-requires : goal.granule_of-requires
+granule_of-requires g c = let a = (c.requires.serving.fits.ready.map.placed _ _ c.requires.next.reads).above in omega arith
+
+pub returns-then-not-is_turn-clause-read : goal.returns-then-not-is_turn-clause-read
+returns-then-not-is_turn-clause-read g c =
+    part_read (pause_view c.args.self.now) c.requires.serving.fits.ready.map (view c.args.helper.now.claimer) c.args.helper.now.carried c.args.helper.now.place c.args.number c.args.low c.args.high c.part_between-part.result.stop c.args.found c.requires.next c.part_between-part.ensures.inside
+    (λ n m turn. let same = c.granule_of.ensures in let t : c.is_turn.result ≡ true = c.is_turn.ensures.1 (subst (λ (k : ℕ). (c.args.number + k / 16) % c.args.self.now.helpers ≡ c.args.helper.now.place) (sym same) turn) in grind (arith, t, c.if-not-is_turn.true))
 
 pub returns-then-not-is_marked-clause-read : goal.returns-then-not-is_marked-clause-read
 returns-then-not-is_marked-clause-read g c =
-    part_read (pause_view c.args.self.now) c.requires.serving.fits.ready.map (view c.args.helper.now.claimer) c.args.helper.now.carried c.args.low c.args.high c.part_between-part.result.stop c.args.found c.requires.next c.part_between-part.ensures.inside
-    (λ n m. let t : c.is_marked.result ≡ true = c.is_marked.ensures ∙ m in grind (arith, t, c.if-not-is_marked.true))
+    part_read (pause_view c.args.self.now) c.requires.serving.fits.ready.map (view c.args.helper.now.claimer) c.args.helper.now.carried c.args.helper.now.place c.args.number c.args.low c.args.high c.part_between-part.result.stop c.args.found c.requires.next c.part_between-part.ensures.inside
+    (λ n m turn. let t : c.is_marked.result ≡ true = c.is_marked.ensures ∙ m in grind (arith, t, c.if-not-is_marked.true))
 
 pub returns-clause-serves : goal.returns-clause-serves
 returns-clause-serves g c =
@@ -45,5 +53,5 @@ returns-clause-serves g c =
 pub returns-clause-read : goal.returns-clause-read
 returns-clause-read g c =
     let e = c.part_between-part.ensures in let s = e.ends in
-    part_read (pause_view c.args.self.now) c.requires.serving.fits.ready.map (view c.read_words.new.helper.claimer) c.read_words.new.helper.carried c.args.low c.args.high c.part_between-part.result.stop c.args.found c.requires.next e.inside
-    (λ n m i lt from below. c.read_words.ensures.read i (e.reaches i from) (omega (arith, below, s)))
+    part_read (pause_view c.args.self.now) c.requires.serving.fits.ready.map (view c.read_words.new.helper.claimer) c.read_words.new.helper.carried c.args.helper.now.place c.args.number c.args.low c.args.high c.part_between-part.result.stop c.args.found c.requires.next e.inside
+    (λ n m turn i lt from below. c.read_words.ensures.read i (e.reaches i from) (omega (arith, below, s)))

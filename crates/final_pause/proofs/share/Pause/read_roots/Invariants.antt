@@ -6,4 +6,4 @@ use Rattle.final_pause.proofs.share.Pause.read_roots.Given as goal
 abbrev pub invariant-loop-i : goal.invariant-loop-i
 invariant-loop-i g l =
     GoesOnServing (pause_view l.self) l.fn.helper l.helper
-    × AreRootsRead (pause_view l.self) (view l.helper.claimer) l.fn.helper.share.place l.i
+    × AreRootsRead (pause_view l.self) (view l.helper.claimer) l.fn.helper.place l.i

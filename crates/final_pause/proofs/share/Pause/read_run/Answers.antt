@@ -56,7 +56,7 @@ returns-then-visit_all g c =
     let is : c.page_of.result ≡ page_of (word_address object c.args.first) = omega arith in
     reads_run p object c.args.first c.args.count (page_of (word_address object c.args.first)) c.args.helper.now c.visit_all.new.helper c.carry.new.helper c.requires.inside c.requires.one_page
     (subst (λ (ws : List ℕ). VisitsAll p ws c.args.helper.now c.visit_all.new.helper) run c.visit_all.ensures.visits)
-    k.claimer k.waiting k.dirty k.share
+    k.claimer k.waiting k.dirty k.place
     (subst (CarriesPage (found p) (bytes_of p.marker) (words_from p.memory object c.args.first c.args.count) (page_of (word_address object c.args.first)) c.visit_all.new.helper.carried)
     (ap (λ (n : ℕ). set c.visit_all.new.helper.carried n true) (sym is) ∙ sym k.carried)
     (carries_some (found p) (bytes_of p.marker) _ (page_of (word_address object c.args.first)) c.visit_all.new.helper.carried (omega arith) tells))
