@@ -19,8 +19,11 @@ use crate::helper::Helper;
 use crate::share::Pause;
 use block_map::Found;
 use marker::{Entry, Marker};
-use words::limits::{PAGE_BYTES, WORD_BYTES};
+use words::limits::{MARK_STACK_ENTRIES, PAGE_BYTES, WORD_BYTES};
 use words::page_of;
+
+// So many words of an entry are read before it is seen to that what they lead to has room: half as many as a stack has.
+const PIECE: u64 = MARK_STACK_ENTRIES as u64 / 2;
 
 // The entry of a number, and `None` from where there is no more.
 fn entry_at(marker: &Marker, number: usize) -> Option<Entry>
@@ -80,7 +83,7 @@ impl<'a> Pause<'a> {
         while next < found.len {
             let address = found.base + WORD_BYTES * u64::from(next);
             let on_page = (PAGE_BYTES - address % PAGE_BYTES) / WORD_BYTES;
-            let count = on_page.min(u64::from(found.len - next));
+            let count = on_page.min(u64::from(found.len - next)).min(PIECE);
             self.read_turn(gate, helper, found, next, count, number);
             next += count as u32;
         }

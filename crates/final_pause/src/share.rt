@@ -16,11 +16,11 @@ use block_map::{BlockMap, Found};
 use mark_bits::MarkTable;
 use marker::Marker;
 use pages::{Memory, Reader, Words};
-use words::limits::{FIRST_ADDRESS, PAGE_BYTES, PAGE_WORDS, WORD_BYTES};
+use words::limits::{FIRST_ADDRESS, PAGE_BYTES, WORD_BYTES};
 use words::{PageNo, granule_of, page_of};
 
-// An object of more words is long.
-const LONG: u64 = 4 * PAGE_WORDS;
+// An object is left to its pages that has more than this part of the words that the helper may still read.
+const LONG: u64 = 16;
 
 /// What the helpers of a pause share. No helper changes any of it but the table, by claims.
 #[derive(Clone, Copy)]
@@ -168,8 +168,8 @@ impl<'a> Pause<'a> {
         }
     }
 
-    // Reads the objects that wait, and those that come, until none is left. A long one, and one that has more words than the helper
-    // may still read, is left to its pages, which the next round deals to all.
+    // Reads the objects that wait, and those that come, until none is left. One that is long beside what the helper may still read is
+    // left to its pages, which all read together in the next round.
     pub(crate) fn read_waiting<G: Gate>(&self, gate: &G, helper: &mut Helper)
         requires { IsServing (pause_view self.now) helper.old }
         ensures serves { GoesOnServing (pause_view self.now) helper.old helper.new }
@@ -178,7 +178,7 @@ impl<'a> Pause<'a> {
         while let Some(base) = helper.waiting.take(self.memory) {
             let found = self.map.object_at(base);
             let words = u64::from(found.len);
-            if words > helper.left.min(LONG) {
+            if words > helper.left / LONG {
                 put_off(helper, found);
             } else {
                 helper.left -= words;

@@ -10,9 +10,10 @@ ghost use Rattle.final_pause.specs.Waiting.{IsPut, IsTaken, IsMoved};
 use arrayvec::ArrayVec;
 use pages::Memory;
 use std::marker::Model;
+use words::limits::MARK_STACK_ENTRIES;
 
-// The objects that have room on a stack.
-const ENTRIES: usize = 4_096;
+// The entries of a helper's stack.
+const ENTRIES: usize = MARK_STACK_ENTRIES as usize;
 
 // So many are looked at together.
 const AHEAD: usize = 8;
@@ -45,9 +46,9 @@ impl Waiting {
         }
     }
 
-    /// Whether so many wait that there may soon be no room.
+    /// Whether so many wait that there may soon be no room: half of the stack is taken.
     pub(crate) fn is_crowded(&self) -> bool {
-        self.stack.len() > ENTRIES / 2
+        self.stack.len() >= ENTRIES / 2
     }
 
     /// Lets another one wait, and answers whether it has room.

@@ -19,8 +19,8 @@ put_off-requires-clause-placed g c =
     let s = c.loop-base.invariant.serving in let f = c.object_at-found.result in
     subst (λ (n : ℕ). IsPlaced n f) (sym s.fits.dirty) (s.fits.ready.map.placed c.in-Some.base f c.object_at-found.ensures.object)
 
-pub loop-base-preserved-then-words-min : goal.loop-base-preserved-then-words-min
-loop-base-preserved-then-words-min g c =
+pub loop-base-preserved-then-words-helper : goal.loop-base-preserved-then-words-helper
+loop-base-preserved-then-words-helper g c =
     let p = pause_view c.args.self.now in let h = c.loop-base.helper in let f = c.object_at-found.result in let inv = c.loop-base.invariant in
     let m = record h { waiting = c.take.new.self } in let b = c.put_off.new.helper in
     serves_trans p c.args.helper.now h b inv
