@@ -11,18 +11,20 @@
 //   "of one round"                                       there is one heap, and `lead` gathers what it dealt
 //   what is left: "no entry", and "dirty pages"          ending.c reads these behind the last round, as it would without one
 //
-// What hangs from one entry is read by one helper. So a round is short, and what is left then lies on pages, which the next one deals anew.
-// Where one helper did most of it, as with a long list, the collecting thread goes on alone for longer and longer.
+// What hangs from one entry is read by one helper. So the first round is short, and what is left then lies on pages, which the next one deals
+// object by object; each round may be longer than the one before. Where one helper did most of it, as with a long list, the collecting
+// thread goes on alone for longer and longer.
 // Counted under marking side by side.
 #include "layer.h"
 
-// Words: that are marked alone before a round, so that nobody is woken for less; and that each helper reads in one. And pages: where
-// fewer are left dirty, another round isn't worth it.
-enum { ALONE = 1 << 16, ROUND = 1 << 20, MANY_PAGES = 64, LONGER = 4 };
+// Words: that are marked alone before a round, so that nobody is woken for less; that each helper reads in the first one; and by so much
+// more in the next. And pages: where fewer are left dirty, and no two helpers have read all that they might, another round isn't worth it.
+enum { ALONE = 1 << 16, FIRST_ROUND = 1 << 16, MOST_IN_ROUND = 1 << 24, MANY_PAGES = 64, LONGER = 4, LONGER_ROUND = 16 };
 
 static mpheap_shares shares[MPHEAP_MAX_HELPERS];  // all stand at the first marker's, out of which the others come
 static _Atomic unsigned opened;
 static uint64_t has_read[MPHEAP_MAX_HELPERS];  // words, in this round
+static uint64_t round_words;                    // that each may read in it
 static unsigned helpers;
 static bool is_shared;
 
@@ -43,7 +45,7 @@ static void must(uint32_t status, const char *sentence)
     if (status != MPHEAP_OK) mpgc_stop(sentence);
 }
 
-static void help(unsigned which) { has_read[which] = mpheap_help(&shares[which], ROUND); }
+static void help(unsigned which) { has_read[which] = mpheap_help(&shares[which], round_words); }
 
 // The first marker has what comes before and behind. Where memory is refused there are fewer shares, or none.
 static void lead(void)
@@ -104,17 +106,25 @@ static bool count_round(uint64_t dealt_pages)
     return 3 * most <= 2 * all;
 }
 
+// Two helpers at least have read nearly all that they might: much may be left, on however few pages.
+static bool were_busy(void)
+{
+    unsigned busy = 0;
+    for (unsigned which = 0; which < helpers; which++) busy += has_read[which] >= round_words / 2;
+    return busy >= 2;
+}
+
 // Rounds are made while they pay. Answers how many words are to be marked alone then, before there may be more of them.
 uint64_t mpgc_mark_in_rounds(void)
 {
     uint64_t dirty = mpgc_dirty_pages();
     bool pays = true, goes_on = true;
-    while (goes_on) {
+    for (round_words = FIRST_ROUND; goes_on; round_words = round_words < MOST_IN_ROUND ? round_words * LONGER_ROUND : round_words) {
         make_round();
         if (!is_shared) return UINT64_MAX;
         pays = count_round(dirty);
         dirty = mpgc_dirty_pages();
-        goes_on = pays && dirty >= MANY_PAGES;
+        goes_on = pays && dirty > 0 && (dirty >= MANY_PAGES || were_busy());
     }
     alone = pays ? ALONE : alone * LONGER;
     return alone;

@@ -12,9 +12,6 @@ HIDDEN void mpgc_tidied(bool did_some);
 HIDDEN void mpgc_grant(size_t pages);
 HIDDEN bool mpgc_rest(void);
 
-// large_pages.c
-HIDDEN void mpgc_ask_for_large_pages(size_t pages);
-
 // collections.c
 HIDDEN bool mpgc_tidy(void);
 HIDDEN bool mpgc_collect_unless(GC_stop_func stop);

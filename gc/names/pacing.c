@@ -86,7 +86,6 @@ void mpgc_set_budget(void)
     size_t used = mpgc_used_pages();
     set_budget_for(used - mpgc_pending_pages() / 2);
     full = used < allowed ? allowed : used < allowed + allowed / 4 ? used : allowed + allowed / 4;
-    mpgc_ask_for_large_pages(full);
     uint64_t asked = mpgc_figures.since + mpgc_words_taken_back(true);
     if (asked > left) mpgc_figures.total += asked - left;
     mpgc_figures.since = left;
@@ -148,7 +147,6 @@ static bool has_filled_its_pages(void)
     if (!is_ripe && used > full) {
         while (allowed < used) allowed += more_pages();
         full = allowed;
-        mpgc_ask_for_large_pages(full);
     }
     is_ripe = true;
     uint64_t asked = mpgc_figures.marked + still_there(), room = allowed * (PAGE / WORD);
