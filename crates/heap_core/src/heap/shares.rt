@@ -64,7 +64,7 @@ impl Core {
     // Does a helper's share, and answers how many words it read.
     fn help(&self, round: &Round, most: u64, helper: &mut Helper) -> u64
         requires { IsServing (core_view self.now round.now) helper.old }
-        ensures { HasServed (core_view self.now round.now) helper.old.share.place helper.new }
+        ensures { HasServed (core_view self.now round.now) helper.old.place helper.new }
     {
         self.objects.help(round, &self.marker, most, helper)
     }
@@ -85,7 +85,7 @@ impl Core {
 fn help_all(lent: &Lent, most: u64, crew: &mut [Helper]) -> u64
     requires { (i : ℕ) (d : HelperValue) → i < length crew.old → IsServing (core_view lent.now.core.value lent.now.round) (slice_index_or crew.old i d) }
     ensures len { length crew.new ≡ length crew.old }
-    ensures served { (i : ℕ) (d : HelperValue) → i < length crew.old → HasServed (core_view lent.now.core.value lent.now.round) (slice_index_or crew.old i d).share.place (slice_index_or crew.new i d) }
+    ensures served { (i : ℕ) (d : HelperValue) → i < length crew.old → HasServed (core_view lent.now.core.value lent.now.round) (slice_index_or crew.old i d).place (slice_index_or crew.new i d) }
 {
     let mut read = 0u64;
     for helper in crew {

@@ -44,7 +44,7 @@ impl ObjectSpace {
     /// first to mark, it leaves the others to their pages. Answers how many it read of these. It takes no memory.
     pub fn help(&self, round: &Round, marker: &Marker, most: u64, helper: &mut Helper) -> u64
         requires { IsServing (round_view round.now marker.now self.now.states self.now.words []) helper.old }
-        ensures { HasServed (round_view round.now marker.now self.now.states self.now.words []) helper.old.share.place helper.new }
+        ensures { HasServed (round_view round.now marker.now self.now.states self.now.words []) helper.old.place helper.new }
     {
         round.help(marker, &self.map, &self.memory, &[], most, helper)
     }

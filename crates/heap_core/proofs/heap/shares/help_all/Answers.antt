@@ -26,9 +26,9 @@ loop-helper-preserved c =
           let h = c.helper-item.result in
           let was : get_or items at h ≡ get_or c.args.crew.now i d = inv.rest at h (omega arith) ∙ (get_or_default c.args.crew.now at h d test ∙ ap (λ (n : ℕ). get_or c.args.crew.now n d) (sym e)) in
           let is : new ≡ get_or (set items at new) i d = sym (ap (λ (n : ℕ). get_or (set items at new) n d) e ∙ get_or-set_same items at new d (omega (arith, test, size))) in
-          let served : HasServed p (get_or items at h).share.place new = subst (λ (core : CoreContents). HasServed (core_view core c.args.lent.now.round) (get_or items at h).share.place new) c.deref.ensures c.help.ensures in
-          subst (λ (k : Helper). HasServed p k.share.place (get_or (set items at new) i d)) was (subst (HasServed p (get_or items at h).share.place) is served))
-          (λ ne. subst (HasServed p (get_or c.args.crew.now i d).share.place) (sym (get_or-set_other items at i new d ne)) (inv.done i d (omega (arith, lt, ne))))
+          let served : HasServed p (get_or items at h).place new = subst (λ (core : CoreContents). HasServed (core_view core c.args.lent.now.round) (get_or items at h).place new) c.deref.ensures c.help.ensures in
+          subst (λ (k : Helper). HasServed p k.place (get_or (set items at new) i d)) was (subst (HasServed p (get_or items at h).place) is served))
+          (λ ne. subst (HasServed p (get_or c.args.crew.now i d).place) (sym (get_or-set_other items at i new d ne)) (inv.done i d (omega (arith, lt, ne))))
           (cases_eq i at);
       rest = λ i d le. get_or-set_other items at i new d (λ e. absurd (omega (arith, le, e))) ∙ inv.rest i d (omega (arith, le));
     }
