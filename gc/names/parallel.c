@@ -1,7 +1,8 @@
-// How many threads mark, the one that collects among them: as the environment says, or the program before its first request. bdwgc's are else
-// as many as there are processors; here one marks then, since a helper takes longer for an object than one thread alone (PROGRAMS has the
-// figures). As with bdwgc there are others only once the program has a second thread.
+// How many threads mark, the one that collects among them: as the environment says, or the program before its first request; else as many as
+// there are processors, as with bdwgc, but of those on which the process may run. As with bdwgc there are others only once the program has
+// a second thread.
 #include "../front.h"
+#include <sched.h>
 #include <stdlib.h>
 
 enum { MOST = 8 };
@@ -14,7 +15,9 @@ static unsigned processors(void)
 {
     const char *text = getenv("GC_NPROCS");
     int said = text ? atoi(text) : 0;
-    return said > 0 ? (unsigned)said : 1;
+    cpu_set_t set;
+    if (said > 0) return (unsigned)said;
+    return sched_getaffinity(0, sizeof set, &set) == 0 ? (unsigned)CPU_COUNT(&set) : 1;
 }
 
 // The heap has just been opened.

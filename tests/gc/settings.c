@@ -2,6 +2,7 @@
  * runs over bdwgc where that is installed, with -DOTHER; what is said of libmpgc alone is left out then. */
 #define _GNU_SOURCE
 #include <errno.h>
+#include <sched.h>
 #include <stdint.h>
 #include <unistd.h>
 #include "gc.h"
@@ -295,7 +296,8 @@ static NOINLINE void stops(void)
 #endif
 
 /* How many threads mark besides the one that collects: as the environment says, else the program before its first request, else the number
- * of processors that it says; more than there may be are as many as may be. There are none before the program may have a second thread. */
+ * of processors that it says, else as many as there are; more than there may be are as many as may be. There are none before the program
+ * may have a second thread. */
 extern int GC_parallel, GC_get_parallel(void);
 extern void GC_set_markers_count(unsigned count), GC_allow_register_threads(void), GC_start_mark_threads(void);
 #ifdef OTHER
@@ -334,8 +336,16 @@ static void has_markers(const char *environment, unsigned program, const char *p
     CHECK(status_of(markers) == 0);
 }
 
+static int processors(void)
+{
+    cpu_set_t set;
+    int count = sched_getaffinity(0, sizeof set, &set) == 0 ? CPU_COUNT(&set) : 1;
+    return count < MOST_MARKERS ? count : MOST_MARKERS;
+}
+
 static void all_markers(void)
 {
+    has_markers(NULL, 0, NULL, processors());
     has_markers("3", 0, NULL, 3);
     has_markers("3", 5, "2", 3);
     has_markers("1", 5, NULL, 1);
