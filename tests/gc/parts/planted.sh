@@ -59,7 +59,7 @@ faults_are_noticed() {
         edits+=("$edit")
     done < <(sed -n 's/^test: //p' "${edits[@]}" | sort -u)
     for edit in "${edits[@]}"; do
-        runs=6
+        runs=24
         [[ $(basename "$edit") != none_* && $edit != */harmless/* ]] || runs=1
         planted "$edit" "$runs" >"$room/seen_$(basename "$edit")" &
         while [ "$(jobs -rp | wc -l)" -ge 4 ]; do wait -n; done
