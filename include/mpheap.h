@@ -352,8 +352,8 @@ uint32_t mpheap_share(mpheap *heap, uint8_t helpers, mpheap_shares *all);
 uint32_t mpheap_hire(mpheap_shares *all, mpheap_shares *one);
 
 /* The work of the shares that stand there: what was dealt to each is read, and what that leads to. It marks as it goes, and of the objects
- * that it was the first to mark each share reads at most `most` words: one that is larger than what is left of these, or finds no room
- * on the helper's stack, is left to its pages, which become dirty. Answers how many words of such objects it read. Those of entries and
+ * that it was the first to mark each share reads at most `most` words: one that is larger than a sixteenth of what is left of these, or
+ * finds no room on the helper's stack, is left to its pages, which become dirty. Answers how many words of such objects it read. Those of entries and
  * pages that were dealt are read however many they are, and counted neither there nor against `most`. Where no shares stand, or all
  * are done, it does nothing, and answers 0. */
 uint64_t mpheap_help(mpheap_shares *some, uint64_t most);
