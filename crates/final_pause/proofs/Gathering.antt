@@ -1,5 +1,5 @@
 -- What helpers know, won and made dirty is put together.
-use Rattle.std.proofs.Common.{◌≡◌, ℕ, ◌+◌, ◌*◌, ◌/◌, ◌%◌, ◌<◌, ◌≤◌, List, Bool, true, Contains, Option, Some, None, length, get_or, refl, sym, ap, subst, ◌∙◌, inl, inr, ⊎_elim, mod-lt, arith}
+use Rattle.std.proofs.Common.{◌≡◌, ℕ, ◌+◌, ◌-◌, ◌*◌, ◌/◌, ◌%◌, ◌<◌, ◌≤◌, List, Bool, true, Contains, Option, Some, None, length, get_or, refl, sym, ap, subst, ◌∙◌, inl, inr, ⊎_elim, mod-lt, arith}
 use Rattle.std.specs.Prelude.{◌⊎◌}
 use Rattle.std.proofs.lemmas.Bool.{cases_eq, cases_lt, true≢false}
 use Rattle.std.proofs.lemmas.List.{get_or_default}
@@ -109,7 +109,7 @@ module _ {p : PauseView} (first : Claimer) (dirty carried : List Bool) (new : Ma
   read_pending : (f : Found) → found p f.base ≡ Some f → f.kind ≡ Normal → IsMarked old f.base → (i : ℕ) → i < f.len → IsLeftToEntry old f.base i → IsWordRead p (view first) carried f i
   read_pending f o n m i lt q =
       let at = entry_in old q.entry q.one in
-      let turn : ℕ = at.0 + page_of (word_address f i) in
+      let turn : ℕ = at.0 + (page_of (word_address f i) - page_of f.base) in
       let place = g.shares (turn % p.helpers) (omega arith) (mod-lt turn some) in
       let read : IsEntryRead p (view first) carried (turn % p.helpers) at.0 q.entry = subst (IsEntryRead p (view first) carried (turn % p.helpers) at.0) at.2 (place.entries at.0 q.entry at.1) in
       read f o (sym q.same) n m i q.left lt refl

@@ -1,5 +1,5 @@
 -- A helper at work and at its end.
-use Rattle.std.specs.Prelude.{◌≡◌, ℕ, ◌+◌, ◌/◌, ◌%◌, ◌<◌, ◌≤◌, Bool, List, [], length, slice_index_or, slice_index, Contains, Some, ◌⊎◌}
+use Rattle.std.specs.Prelude.{◌≡◌, ℕ, ◌+◌, ◌-◌, ◌/◌, ◌%◌, ◌<◌, ◌≤◌, Bool, List, [], length, slice_index_or, slice_index, Contains, Some, ◌⊎◌}
 use Rattle.words.specs.declared.class.Kind.TheVariants.{Normal}
 use Rattle.words.specs.Bits.{Has, IsClear}
 use Rattle.words.specs.Layout.{granule, page_of, page_start}
@@ -51,9 +51,9 @@ pub record IsServing (p : PauseView) (h : Helper) : Type 0 where
   pub own : AreWon h
 
 -- Of these words of an object, which is that of the entry of a number, the place's were read: those on the pages of which the page's
--- number and the entry's are together the place, modulo the number of helpers.
+-- number, counted from the object's first page on, and the entry's are together the place, modulo the number of helpers.
 abbrev pub IsRunRead : PauseView → ClaimerView → List Bool → ℕ → ℕ → Found → ℕ → ℕ → Type 0
-IsRunRead p v carried place number f first past = (i : ℕ) → first ≤ i → i < past → (number + page_of (word_address f i)) % p.helpers ≡ place → IsWordRead p v carried f i
+IsRunRead p v carried place number f first past = (i : ℕ) → first ≤ i → i < past → (number + (page_of (word_address f i) - page_of f.base)) % p.helpers ≡ place → IsWordRead p v carried f i
 
 -- the place's part of the words that an entry had left was read, if it was one of a marked Normal object
 abbrev pub IsEntryRead : PauseView → ClaimerView → List Bool → ℕ → ℕ → Entry → Type 0

@@ -1,7 +1,7 @@
 //! The entries that were left over, which the helpers read together.
 //!
 //! They are numbered from the lowest one on, and the one that is being read comes last. Of the entry of a number a helper reads the words
-//! on those pages of which the page's number and the entry's are together its place, modulo the number of helpers. So an object on
+//! on those pages of which the page's number in the object and the entry's are together its place, modulo the number of helpers. So an object on
 //! one page is read by one of them, and a long one by all.
 ghost use Rattle.std.specs.Prelude.{◌≡◌, ℕ, ◌+◌, ◌<◌, ◌≤◌, Some, MatchOption, length};
 ghost use Rattle.words.specs.Layout.{page_of};
@@ -61,7 +61,8 @@ impl<'a> Pause<'a> {
         ensures serves { GoesOnServing (pause_view self.now) helper.old helper.new }
         ensures read { IsRunRead (pause_view self.now) (view helper.new.claimer) helper.new.carried helper.old.place number found first (first + count) }
     {
-        let page = page_of(found.base + WORD_BYTES * u64::from(first)) as usize;
+        let address = found.base + WORD_BYTES * u64::from(first);
+        let page = (page_of(address) - page_of(found.base)) as usize;
         if (number + page) % self.helpers != helper.place {
             return;
         }

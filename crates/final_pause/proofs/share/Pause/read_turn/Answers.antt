@@ -4,8 +4,11 @@ use Rattle.final_pause.specs.Pauses.{pause_view}
 use Rattle.final_pause.proofs.Serving.{serves_words}
 use Rattle.final_pause.proofs.share.Pause.read_turn.Goals as goal
 
-pub page_of-page-requires : goal.page_of-page-requires
-page_of-page-requires g c = let placed = (c.requires.serving.fits.ready.map.placed _ _ c.requires.object).above in omega arith
+pub page_of-requires : goal.page_of-requires
+page_of-requires g c = let placed = (c.requires.serving.fits.ready.map.placed _ _ c.requires.object).above in omega arith
+
+pub page_of-requires-2 : goal.page_of-requires-2
+page_of-requires-2 g c = (c.requires.serving.fits.ready.map.placed _ _ c.requires.object).above
 
 pub make_room-requires-after_bounds : goal.make_room-requires-after_bounds
 make_room-requires-after_bounds g c κs within =
