@@ -21,14 +21,14 @@ use Rattle.marker.proofs.Words.{words_extends}
 
 module _ (found : ℕ → Option Found) where
   -- more marks leave a word to read
-  unread_more : (a b : Marking) (e : Entry) (f : Found) → ((k : ℕ) → IsMarked a k → IsMarked b k) → IsUnread found a e f → IsUnread found b e f
+  pub unread_more : (a b : Marking) (e : Entry) (f : Found) → ((k : ℕ) → IsMarked a k → IsMarked b k) → IsUnread found a e f → IsUnread found b e f
   unread_more a b e f more u = record { object = u.object; base = u.base; normal = u.normal; marked = more f.base u.marked; left = u.left }
 
-  from_more : (a b : Marking) (n : ℕ) (es : List Entry) → ((k : ℕ) → IsMarked a k → IsMarked b k) → AreUnreadFrom found a n es → AreUnreadFrom found b n es
+  pub from_more : (a b : Marking) (n : ℕ) (es : List Entry) → ((k : ℕ) → IsMarked a k → IsMarked b k) → AreUnreadFrom found a n es → AreUnreadFrom found b n es
   from_more a b n es more k = record { each = λ i e from lt is. (let u = k.each i e from lt is in (u.0, unread_more a b e u.0 more u.1)) }
 
   -- the first of them
-  from_first : (m : Marking) (n : ℕ) (es more : List Entry) → AreUnreadFrom found m n (es ++ more) → AreUnreadFrom found m n es
+  pub from_first : (m : Marking) (n : ℕ) (es more : List Entry) → AreUnreadFrom found m n (es ++ more) → AreUnreadFrom found m n es
   from_first m n es more k = record {
     each = λ i e from lt is. (let l = length-append es more in k.each i e from (omega arith) (get_or_append_left es more e i lt ∙ is));
   }
@@ -133,7 +133,7 @@ module _ (pages : ℕ) (found : ℕ → Option Found) (map : IsMap pages found) 
   known_word w old new n size (object f is x) known = known_object f old new n (at_base pages found map w f is) size x x.awaits known
 
   module _ (old : Marking) (size : length old.marks ≡ PAGE_GRANULES * pages) (n : ℕ) (known : AreUnreadFrom found old n old.stack) where
-    known_words : {ws : List ℕ} {new : Marking} → MarksWords found old ws new → AreUnreadFrom found new n new.stack
+    pub known_words : {ws : List ℕ} {new : Marking} → MarksWords found old ws new → AreUnreadFrom found new n new.stack
     known_words begun = known
     known_words (and_word {w = w} {m = m} {new = new} x y) = known_word w m new n ((words_extends pages found map old size x).marks_len ∙ size) y (known_words x)
 

@@ -6,9 +6,13 @@ pub mod Spreads
 pub mod MarkWord
 pub mod Words
 pub mod Known
+pub mod Dropping
 pub mod Settling
+pub mod Picking
 pub mod Reading
 pub mod Taking
+pub mod Beginning
+pub mod Finishing
 pub mod Mutating
 pub mod Rescanning
 pub mod Parts

@@ -18,7 +18,7 @@ use Rattle.marker.specs.Entries.{ReadsOn, TakesOff, WentOn, read_on}
 use Rattle.marker.proofs.Costs.{left_new}
 use Rattle.marker.proofs.Growing.{Extends, traced_more, carried_more, below_contains}
 use Rattle.marker.proofs.Words.{words_extends, words_targets, words_within, contains_word, run_strays}
-use Rattle.marker.proofs.Settling.{is_current}
+use Rattle.marker.proofs.Dropping.{is_current}
 
 -- where the reading ends, as its relation says it
 module _ (pages : ℕ) (found : ℕ → Option Found) (map : IsMap pages found) (words : List ℕ) (n : ℕ) (old new' : Marking) (size : length old.marks ≡ PAGE_GRANULES * pages) (x : ReadsOn found words n old new') where

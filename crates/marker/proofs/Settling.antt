@@ -1,24 +1,19 @@
 -- Entries are dropped.
-use Rattle.std.proofs.Common.{◌≡◌, ℕ, ◌+◌, ◌-◌, ◌*◌, ◌<◌, ◌≤◌, Bool, true, false, List, [], ◌∷◌, ◌++◌, length, get_or, sum_by, Contains, Option, Some, None, refl, sym, ap, ◌∙◌, subst, inl, inr, ⊎_elim, append_assoc, append-nil, length-append, arith}
+use Rattle.std.proofs.Common.{◌≡◌, ℕ, ◌+◌, ◌-◌, ◌<◌, ◌≤◌, Bool, true, false, List, [], ◌∷◌, ◌++◌, length, get_or, sum_by, Contains, Option, Some, None, refl, sym, ap, ◌∙◌, subst, inl, inr, ⊎_elim, append_assoc, append-nil, length-append, arith}
 use Rattle.std.specs.Prelude.{◌⊎◌, option_to_list}
 use Rattle.std.proofs.lemmas.Option.{same_Some}
-use Rattle.std.proofs.lemmas.Bool.{cases_eq}
 use Rattle.std.proofs.lemmas.List.Sums.{sum_by-append}
 use Rattle.std.proofs.lemmas.List.Elements.{Contains-append_cases, Contains-append_left, Contains-push}
 use Rattle.std.proofs.lemmas.List.{same_from_push, length_push, get_or_push}
 use Rattle.std.proofs.lemmas.List.{get_or-append-add}
-use Rattle.words.specs.declared.limits.TheConstants.{PAGE_BYTES}
 use Rattle.words.specs.Bits.{Has}
-use Rattle.words.specs.Layout.{granule, page_of}
+use Rattle.words.specs.Layout.{granule}
 use Rattle.block_map.specs.declared.found.Found.{Found}
 use Rattle.marker.specs.declared.entry.Entry.{Entry}
-use Rattle.marker.specs.Marking.{Marking, IsEmpty, IsEntry, IsLeftToEntry, IsOutside, entries, word_address}
+use Rattle.marker.specs.Marking.{Marking, IsEmpty, IsEntry, entries}
 use Rattle.marker.specs.Work.{left, left_of, page_words, unmarked_from, cost}
-use Rattle.marker.specs.Invariant.{DirtyPageInvariant, CarriedPageInvariant, IsSettled}
-use Rattle.marker.specs.Closure.{held}
-use Rattle.marker.specs.Growth.{Traces}
-use Rattle.marker.specs.Entries.{IsSpent, IsLive, ReadsOn, read_on, Settles, IsReadOut, TakesOff, IsBelow}
-use Rattle.marker.proofs.Growing.{below_refl}
+use Rattle.marker.specs.Entries.{IsSpent, IsLive, ReadsOn, read_on, Settles}
+use Rattle.marker.proofs.Dropping.{Keeps}
 
 -- Entries on top that have no word to read are dropped, so far.
 pub record Drops (found : ℕ → Option Found) (old new : Marking) : Type 0 where
@@ -46,16 +41,6 @@ entry_in m e one =
 
 pub in_entry : (m : Marking) (e : Entry) → Contains (entries m) e → IsEntry m e
 in_entry m e h = ⊎_elim (λ c. inr c) (λ c. inl (in_option m.current e c)) (Contains-append_cases m.stack (option_to_list m.current) e h)
-
-same_entry : (a b : Entry) → (a ≡ b) ⊎ (a ≡ b → ⊥)
-same_entry a b =
-    ⊎_elim
-    (λ (x : a.base ≡ b.base). ⊎_elim (λ (y : a.next ≡ b.next). inl (λ i. record { base = x i; next = y i })) (λ n. inr (λ e. n (ap (λ (z : Entry). z.next) e))) (cases_eq a.next b.next))
-    (λ n. inr (λ e. n (ap (λ (z : Entry). z.base) e))) (cases_eq a.base b.base)
-
-pub is_current : (o : Option Entry) (e : Entry) → (o ≡ Some e) ⊎ (o ≡ Some e → ⊥)
-is_current None e = inr (λ h. absurd (cc h))
-is_current (Some x) e = ⊎_elim (λ s. inl (ap Some s)) (λ n. inr (λ h. n (same_Some x e h))) (same_entry x e)
 
 -- the last one of a list stands in each end of it that isn't empty
 top_in : (s t d : List Entry) (e : Entry) → s ++ e ∷ [] ≡ t ++ d → 0 < length d → Contains d e
@@ -127,7 +112,7 @@ module _ (found : ℕ → Option Found) where
           absurd (omega arith)
 
   module _ (a b : Marking) (x : Settles found a b) where
-    pub settled_entry : (e : Entry) → IsEntry a e → IsEntry b e ⊎ IsSpent found a e
+    settled_entry : (e : Entry) → IsEntry a e → IsEntry b e ⊎ IsSpent found a e
     settled_entry e one =
         ⊎_elim (λ h. inl (in_entry b e h)) (λ h. inr (x.spent e h))
         (Contains-append_cases (entries b) x.dropped e (subst (λ l. Contains l e) x.entries_are (entry_in a e one)))
@@ -140,42 +125,6 @@ module _ (found : ℕ → Option Found) where
         let d : sum_by page_words b.dirty ≡ sum_by page_words a.dirty = ap (sum_by page_words) x.dirty in
         let u : unmarked_from found 0 b.marks ≡ unmarked_from found 0 a.marks = ap (unmarked_from found 0) x.marks in
         omega arith
-
-    settled_traced : (words : List ℕ) → DirtyPageInvariant found words a → DirtyPageInvariant found words b
-    settled_traced words t f is n k i lt =
-        ⊎_elim (λ g. inl (λ o e. subst (λ y. Has y (granule o.base)) (sym x.marks) (g o e)))
-        (λ w. inr (⊎_elim (λ d. inl (subst (λ y. Has y (page_of (word_address f i))) (sym x.dirty) d))
-        (λ (p : IsLeftToEntry a f.base i). ⊎_elim (λ one. inr (record { entry = p.entry; one = one; same = p.same; left = p.left }))
-        (λ (s : IsSpent found a p.entry). absurd (let l = s f is (sym p.same) n (subst (λ y. Has y (granule f.base)) x.marks k) in let q = p.left in omega arith)) (settled_entry p.entry p.one)) w))
-        (t f is n (subst (λ y. Has y (granule f.base)) x.marks k) i lt)
-
-    still_settled : (p w : ℕ) → IsSettled found a p w → IsSettled found b p w
-    still_settled p w (IsSettled.held g e k) = IsSettled.held g e (subst (λ y. Has y (granule g.base)) (sym x.marks) k)
-    still_settled p w (IsSettled.outside o) = IsSettled.outside (subst (λ (n : ℕ). IsOutside (PAGE_BYTES * n) w) (sym (ap length x.dirty)) o)
-    still_settled p w (IsSettled.carried h) = IsSettled.carried (subst (λ r. Has r (page_of p)) (sym x.carried) h)
-
-    settled_carried : (words : List ℕ) → CarriedPageInvariant found words a → CarriedPageInvariant found words b
-    settled_carried words t f is n k i lt =
-        ⊎_elim (λ g. inl (still_settled _ _ g))
-        (λ w. inr (⊎_elim (λ d. inl (subst (λ y. Has y (page_of (word_address f i))) (sym x.dirty) d))
-        (λ (p : IsLeftToEntry a f.base i). ⊎_elim (λ one. inr (record { entry = p.entry; one = one; same = p.same; left = p.left }))
-        (λ (s : IsSpent found a p.entry). absurd (let l = s f is (sym p.same) n (subst (λ y. Has y (granule f.base)) x.marks k) in let q = p.left in omega arith)) (settled_entry p.entry p.one)) w))
-        (t f is n (subst (λ y. Has y (granule f.base)) x.marks k) i lt)
-
-    pub settled_traces : (words : List ℕ) → Traces found words [] a b
-    settled_traces words = record {
-      marks_len = ap length x.marks;
-      dirty_len = ap length x.dirty;
-      marks = λ d h. subst (λ y. Has y (granule d)) (sym x.marks) h;
-      objects = λ k h. inl (subst (λ y. Has y k) x.marks h);
-      within = λ f e k. held e (subst (λ y. Has y (granule f.base)) x.marks k);
-      dirtied = λ p h. inl (subst (λ y. Has y p) x.dirty h);
-      keeps = settled_traced words;
-      carried_len = ap length x.carried;
-      carried = λ p h. subst (λ y. Has y p) (sym x.carried) h;
-      strays = λ p h. inl (subst (λ y. Has y p) x.carried h);
-      carries = settled_carried words;
-    }
 
     -- the entry that is being read is dropped only if it is spent
     by_next : (o : Option Entry) (s : List Entry) (e : Entry) → a.stack ++ e ∷ [] ≡ s ++ option_to_list o → (o ≡ None → s ≡ []) → (o ≡ Some e) × (a.stack ≡ s)
@@ -192,18 +141,5 @@ module _ (found : ℕ → Option Found) where
     settled_current : (e : Entry) → a.current ≡ Some e → IsSpent found a e ⊎ ((b.current ≡ Some e) × (a.stack ≡ b.stack))
     settled_current e c = ⊎_elim (λ h. inl (x.spent e h)) (λ s. inr s) (by_dropped x.dropped e (sym (ap (λ o. a.stack ++ option_to_list o) c) ∙ x.entries_are))
 
-    spent_out : (words : List ℕ) (e : Entry) → IsSpent found a e → IsReadOut found words a b e
-    spent_out words e p f is h n k i le lt = absurd (let l = p f is h n k in omega arith)
-
-    pub settled_taken : (words : List ℕ) → TakesOff found words a b
-    settled_taken words e one =
-        ⊎_elim
-        (λ (c : a.current ≡ Some e).
-        ⊎_elim (λ p. inr (spent_out words e p))
-        (λ (s : (b.current ≡ Some e) × (a.stack ≡ b.stack)).
-        inl (record { now = e; one = inl s.0; base = refl; further = omega arith; read = λ f is h i le lt. absurd (omega arith); first = λ _. (s.0, subst (λ l. IsBelow a.stack l) s.1 (below_refl a.stack)) }))
-        (settled_current e c))
-        (λ (not : a.current ≡ Some e → ⊥).
-        ⊎_elim (λ o. inl (record { now = e; one = o; base = refl; further = omega arith; read = λ f is h i le lt. absurd (omega arith); first = λ c. absurd (not c) }))
-        (λ p. inr (spent_out words e p)) (settled_entry e one))
-        (is_current a.current e)
+    pub settled_keeps : Keeps found a b
+    settled_keeps = record { marks = x.marks; dirty = x.dirty; carried = x.carried; kept = settled_entry; current = settled_current; cost = settled_cost }

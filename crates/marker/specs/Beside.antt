@@ -6,7 +6,7 @@ use Rattle.words.specs.Layout.{page_of}
 use Rattle.pages.specs.Memory.{word_at}
 use Rattle.pages.specs.Reads.{IsWoven}
 use Rattle.block_map.specs.declared.found.Found.{Found}
-use Rattle.marker.specs.Marking.{Marking, IsMarked, IsNewlyMarked, IsObjectGranule, Covers, StaysDirty, bytes_of, with_carried, word_address}
+use Rattle.marker.specs.Marking.{Marking, IsMarked, IsNewlyMarked, IsObjectGranule, Covers, bytes_of, with_carried, word_address}
 use Rattle.marker.specs.Invariant.{DirtyPageInvariant, CarriedPageInvariant}
 use Rattle.marker.specs.Growth.{MarksWords, CarriesPage, IsStray, words_from}
 

@@ -6,7 +6,7 @@ use Rattle.pages.specs.Memory.{word_at}
 use Rattle.pages.specs.Reads.{IsWoven}
 use Rattle.block_map.specs.declared.found.Found.{Found}
 use Rattle.marker.specs.declared.entry.Entry.{Entry}
-use Rattle.marker.specs.Marking.{Marking, IsMarked, IsEntry, entries, with_current, with_carried, bytes_of, word_address}
+use Rattle.marker.specs.Marking.{Marking, IsMarked, IsEntry, entries, with_current, with_carried, with_stack, bytes_of, word_address}
 use Rattle.marker.specs.Invariant.{IsTargetMarked}
 use Rattle.marker.specs.Growth.{MarksWords, CarriesPage, words_from, entry_of}
 
@@ -49,6 +49,15 @@ pub record Settles (found : ℕ → Option Found) (old new : Marking) : Type 0 w
   pub spent : (e : Entry) → Contains dropped e → IsSpent found old e
   pub next : new.current ≡ None → new.stack ≡ []
 
+-- An entry of the stack, wherever it stands there, is the one that is being read now. The one before it had no word left, and is dropped.
+pub record Picks (found : ℕ → Option Found) (old new : Marking) : Type 0 where
+  pub lower : List Entry
+  pub entry : Entry
+  pub upper : List Entry
+  pub stack : old.stack ≡ lower ++ entry ∷ upper
+  pub new_is : new ≡ with_current (with_stack old (lower ++ upper)) entry
+  pub spent : (e : Entry) → old.current ≡ Some e → IsSpent found old e
+
 -- the entry once n more words are read
 abbrev pub read_on : Entry → ℕ → Entry
 read_on e n = record { base = e.base; next = e.next + n }
@@ -79,10 +88,11 @@ pub record ReadsNext (found : ℕ → Option Found) (moments : List (List ℕ)) 
   pub reads : ReadsIn found moments n next new
 
 -- So many words are taken off the entries, each from the one that is being read and at one of the moments; entries that have no
--- word to read are dropped.
+-- word to read are dropped, and when the one that is being read has none, any other may be the next.
 pub data Takes (found : ℕ → Option Found) (moments : List (List ℕ)) (old : Marking) : ℕ → Marking → Type 0 where
   nothing : Takes found moments old 0 old
   settled : {n : ℕ} {a b : Marking} → Takes found moments old n a → Settles found a b → Takes found moments old n b
+  picked : {n : ℕ} {a b : Marking} → Takes found moments old n a → Picks found a b → Takes found moments old n b
   read : {n k : ℕ} {a b : Marking} → Takes found moments old n a → ReadsIn found moments k a b → Takes found moments old (n + k) b
 
 -- the entries of a stack are still where they were

@@ -5,6 +5,7 @@ pub mod Closure
 pub mod Beside
 pub mod Growth
 pub mod Entries
+pub mod Begun
 pub mod Parts
 pub mod Retracing
 pub mod Mutations

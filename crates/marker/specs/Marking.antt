@@ -35,6 +35,10 @@ with_current m e = record { marks = m.marks; dirty = m.dirty; carried = m.carrie
 abbrev pub with_carried : Marking → List Bool → Marking
 with_carried m carried = record { marks = m.marks; dirty = m.dirty; carried = carried; current = m.current; stack = m.stack }
 
+-- the same with other entries that wait
+abbrev pub with_stack : Marking → List Entry → Marking
+with_stack m es = record { marks = m.marks; dirty = m.dirty; carried = m.carried; current = m.current; stack = es }
+
 -- the address is none of so many bytes of a heap
 abbrev pub IsOutside : ℕ → ℕ → Type 0
 IsOutside bytes address = (address < FIRST_ADDRESS) ⊎ (FIRST_ADDRESS + bytes ≤ address)

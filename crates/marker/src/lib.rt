@@ -20,6 +20,7 @@ mod sharing;
 mod spread;
 mod step;
 mod target;
+mod together;
 mod whole;
 
 pub use entry::Entry;

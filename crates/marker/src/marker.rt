@@ -23,7 +23,7 @@ use words::limits::{MARK_STACK_ENTRIES, PAGE_BYTES};
 use words::{BitRow, OpenError, PageNo, granule_of};
 
 // The entries of the mark stack.
-const ENTRIES: usize = MARK_STACK_ENTRIES as usize;
+pub(crate) const ENTRIES: usize = MARK_STACK_ENTRIES as usize;
 
 /// Marks, dirty pages and the objects to be read, as one value.
 #[derive(Drop)]

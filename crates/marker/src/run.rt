@@ -109,7 +109,7 @@ impl Marker {
     // they lie in a row of their own. The loop over fours stands in no caller, so that one that has few words is no longer
     // for it.
     #[inline]
-    fn mark_all(&mut self, map: &BlockMap, heap_bytes: u64, words: Words) -> bool
+    pub(crate) fn mark_all(&mut self, map: &BlockMap, heap_bytes: u64, words: Words) -> bool
         requires pages { length self.old.dirty ≡ length map.now }
         requires lawful { IsLawful map.now }
         requires bytes { heap_bytes ≡ PAGE_BYTES * length map.now }
@@ -125,7 +125,7 @@ impl Marker {
 
     // Makes the page carried.
     #[cold]
-    fn carry(&mut self, page: PageNo)
+    pub(crate) fn carry(&mut self, page: PageNo)
         requires { page < length self.old.carried }
         ensures { self.new ≡ with_carried self.old (slice_set self.old.carried page true) }
     {

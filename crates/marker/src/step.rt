@@ -1,6 +1,6 @@
 //! Steps of marking: words of entries are read, at most so many a call.
 ghost use Rattle.std.specs.Prelude.{◌≡◌, ℕ, ◌+◌, ◌*◌, ◌<◌, ◌≤◌, ◌↔◌, [], ◌∷◌, true, false, length, MatchOption, IfSome, Some};
-ghost use Rattle.words.specs.declared.limits.TheConstants.{MOST_PAGES, PAGE_BYTES, PAGE_WORDS};
+ghost use Rattle.words.specs.declared.limits.TheConstants.{MARK_STACK_ENTRIES, MOST_PAGES, PAGE_BYTES, PAGE_WORDS};
 ghost use Rattle.block_map.specs.declared.found.Found.{Found};
 ghost use Rattle.block_map.specs.Objects.{IsPlaced};
 ghost use Rattle.block_map.specs.FoundIn.{found_in, IsLawful};
@@ -64,8 +64,9 @@ impl Marker {
 
     // How many entries wait.
     #[inline]
-    fn depth(&self) -> usize
-        ensures { result ≡ length self.now.stack }
+    pub(crate) fn depth(&self) -> usize
+        ensures count { result ≡ length self.now.stack }
+        ensures few { result ≤ MARK_STACK_ENTRIES }
     {
         self.stack.len()
     }
@@ -192,6 +193,7 @@ impl Marker {
         requires live { IsLive (found_in map.now) self.old found }
         requires placed { IsPlaced (length map.now) found × (length map.now ≤ MOST_PAGES) }
         requires known { AreUnreadFrom (found_in map.now) self.old known self.old.stack }
+        requires few { known ≤ MARK_STACK_ENTRIES }
         requires memory { length reader.old.words ≡ PAGE_WORDS * length map.now }
         requires some { 0 < most }
         ensures takes { Takes (found_in map.now) reader.old.moments self.old result self.new }

@@ -1,7 +1,7 @@
 //! Objects that are read whole, one after the other. Most are small and their entries were pushed in the same step, so that
 //! a step spends its time here.
 ghost use Rattle.std.specs.Prelude.{◌≡◌, ℕ, ◌+◌, ◌*◌, ◌<◌, ◌≤◌, ◌++◌, ◌∷◌, [], List, length, true, IfSome, Some};
-ghost use Rattle.words.specs.declared.limits.TheConstants.{FIRST_ADDRESS, MOST_PAGES, PAGE_BYTES, PAGE_WORDS};
+ghost use Rattle.words.specs.declared.limits.TheConstants.{FIRST_ADDRESS, MARK_STACK_ENTRIES, MOST_PAGES, PAGE_BYTES, PAGE_WORDS};
 ghost use Rattle.words.specs.Layout.{page_of};
 ghost use Rattle.block_map.specs.Objects.{IsPlaced, LiesOnPage};
 ghost use Rattle.block_map.specs.FoundIn.{found_in, IsLawful};
@@ -9,10 +9,14 @@ ghost use Rattle.marker.specs.Marking.{with_current, word_address};
 ghost use Rattle.marker.specs.Entries.{IsSpent, IsOnTop, AreUnreadFrom, ReadsNext, Takes};
 
 use crate::entry::Entry;
-use crate::marker::Marker;
+use crate::marker::{ENTRIES, Marker};
+use crate::together::TOGETHER;
 use block_map::{BlockMap, Found};
 use pages::Reader;
 use words::limits::PAGE_WORDS;
+
+// Where more entries wait, objects are read one by one: eight of four words each may fill the rest of the stack.
+const CROWDED: usize = ENTRIES - 4 * TOGETHER;
 
 // Whether the words of an object are at most so many, and stand on one page.
 #[inline]
@@ -28,7 +32,7 @@ fn is_whole(found: Found, most: u64) -> bool
 impl Marker {
     // The object of the entry on top of the stack, unless that entry's number is below `known`.
     #[inline]
-    fn top(&self, map: &BlockMap, known: usize) -> Option<Found>
+    pub(crate) fn top(&self, map: &BlockMap, known: usize) -> Option<Found>
         requires { AreUnreadFrom (found_in map.now) self.now known self.now.stack }
         ensures top { IfSome result (λ f. IsOnTop (found_in map.now) self.now f) }
         ensures placed { IfSome result (λ f. IsPlaced (length map.now) f) }
@@ -47,7 +51,7 @@ impl Marker {
 
     // Takes the entry on top off the stack.
     #[inline]
-    fn drop_top(&mut self)
+    pub(crate) fn drop_top(&mut self)
         ensures marks { self.new.marks ≡ self.old.marks }
         ensures dirty { self.new.dirty ≡ self.old.dirty }
         ensures carried { self.new.carried ≡ self.old.carried }
@@ -59,7 +63,7 @@ impl Marker {
 
     // Makes the entry that is being read another one.
     #[inline]
-    fn set_current(&mut self, entry: Entry)
+    pub(crate) fn set_current(&mut self, entry: Entry)
         ensures { self.new ≡ with_current self.old entry }
     {
         self.current = Some(entry);
@@ -93,6 +97,76 @@ impl Marker {
         });
     }
 
+    // Reads the object of the entry on top of the stack whole, if that entry is known to have words and it has so many at most. Answers
+    // how many.
+    #[inline]
+    fn read_top(
+        &mut self,
+        map: &BlockMap,
+        heap_bytes: u64,
+        reader: &mut Reader,
+        known: usize,
+        most: u64,
+    ) -> u64
+        requires pages { length self.old.dirty ≡ length map.now }
+        requires lawful { IsLawful map.now }
+        requires bytes { heap_bytes ≡ PAGE_BYTES * length map.now }
+        requires memory { length reader.old.words ≡ PAGE_WORDS * length map.now }
+        requires known { AreUnreadFrom (found_in map.now) self.old known self.old.stack }
+        requires done { (e : Entry) → self.old.current ≡ Some e → IsSpent (found_in map.now) self.old e }
+        ensures takes { Takes (found_in map.now) reader.old.moments self.old result self.new }
+        ensures known { AreUnreadFrom (found_in map.now) self.new known self.new.stack }
+        ensures done { (e : Entry) → self.new.current ≡ Some e → IsSpent (found_in map.now) self.new e }
+        ensures most { result ≤ most }
+        ensures words { reader.new.words ≡ reader.old.words }
+        ensures moments { reader.new.moments ≡ reader.old.moments }
+        ensures reads { reader.new.reads ≡ reader.old.reads + result }
+    {
+        map.laws();
+        let Some(found) = self.top(map, known) else {
+            return 0;
+        };
+        if !is_whole(found, most) {
+            return 0;
+        }
+        self.read_whole(map, heap_bytes, reader, found);
+        u64::from(found.len)
+    }
+
+    // Reads some objects whole: several together where so many wait and there is room for what they may lead to, and else the
+    // one on top of the stack. Answers how many words, which is 0 if there is none that can be read at once.
+    #[inline]
+    fn read_some(
+        &mut self,
+        map: &BlockMap,
+        heap_bytes: u64,
+        reader: &mut Reader,
+        known: usize,
+        most: u64,
+    ) -> u64
+        requires pages { length self.old.dirty ≡ length map.now }
+        requires lawful { IsLawful map.now }
+        requires bytes { heap_bytes ≡ PAGE_BYTES * length map.now }
+        requires few { known ≤ MARK_STACK_ENTRIES }
+        requires memory { length reader.old.words ≡ PAGE_WORDS * length map.now }
+        requires known { AreUnreadFrom (found_in map.now) self.old known self.old.stack }
+        requires done { (e : Entry) → self.old.current ≡ Some e → IsSpent (found_in map.now) self.old e }
+        ensures takes { Takes (found_in map.now) reader.old.moments self.old result self.new }
+        ensures known { AreUnreadFrom (found_in map.now) self.new known self.new.stack }
+        ensures done { (e : Entry) → self.new.current ≡ Some e → IsSpent (found_in map.now) self.new e }
+        ensures most { result ≤ most }
+        ensures words { reader.new.words ≡ reader.old.words }
+        ensures moments { reader.new.moments ≡ reader.old.moments }
+        ensures reads { reader.new.reads ≡ reader.old.reads + result }
+    {
+        let depth = self.depth();
+        if depth < known + TOGETHER || depth > CROWDED {
+            self.read_top(map, heap_bytes, reader, known, most)
+        } else {
+            self.read_together(map, heap_bytes, reader, known, most)
+        }
+    }
+
     // Reads objects whole, at most so many words: those of the entries on top of the stack, while these are known to have
     // words and the next one's can be read at once. The entry that is being read has no word left, before and after. It is
     // no part of its caller, so that the machine's registers are for this loop alone.
@@ -107,6 +181,7 @@ impl Marker {
     ) -> u64
         requires pages { length self.old.dirty ≡ length map.now }
         requires bytes { heap_bytes ≡ PAGE_BYTES * length map.now }
+        requires few { known ≤ MARK_STACK_ENTRIES }
         requires memory { length reader.old.words ≡ PAGE_WORDS * length map.now }
         requires known { AreUnreadFrom (found_in map.now) self.old known self.old.stack }
         requires done { (e : Entry) → self.old.current ≡ Some e → IsSpent (found_in map.now) self.old e }
@@ -121,13 +196,12 @@ impl Marker {
         self.laws();
         map.laws();
         let mut read = 0;
-        while let Some(found) = self.top(map, known) {
-            if !is_whole(found, most - read) {
+        loop {
+            let more = self.read_some(map, heap_bytes, reader, known, most - read);
+            if more == 0 {
                 return read;
             }
-            self.read_whole(map, heap_bytes, reader, found);
-            read += u64::from(found.len);
+            read += more;
         }
-        read
     }
 }

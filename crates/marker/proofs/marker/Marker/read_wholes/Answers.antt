@@ -1,46 +1,47 @@
-use Rattle.std.proofs.Common.{◌≡◌, ◌+◌, ◌∙◌, ℕ, List, refl, sym, subst, length, arith}
+use Rattle.std.proofs.Common.{◌≡◌, ◌+◌, ◌∙◌, ℕ, List, refl, subst, length, arith}
 use Rattle.block_map.specs.FoundIn.{found_in}
-use Rattle.marker.specs.Entries.{ReadsNext, Takes, nothing, settled, read}
+use Rattle.marker.specs.Entries.{Takes, nothing}
 use Rattle.marker.proofs.Closures.{marks_of}
 use Rattle.marker.proofs.Taking.{Grows, takes_cost, takes_grows, takes_trans}
 use Rattle.marker.proofs.marker.Marker.read_wholes.Goals as goal
-use Rattle.marker.proofs.marker.Marker.read_wholes.Goals.{After-top, After-read_whole}
+use Rattle.marker.proofs.marker.Marker.read_wholes.Goals.{At-loop-heap_bytes, After-read_some-more}
 
-pub loop-found-init : goal.loop-found-init
-loop-found-init c = record { takes = nothing; known = c.requires.known; done = c.requires.done; within = omega arith; words = refl; moments = refl; reads = omega arith }
+pub loop-heap_bytes-init : goal.loop-heap_bytes-init
+loop-heap_bytes-init c = record { takes = nothing; known = c.requires.known; done = c.requires.done; within = omega arith; words = refl; moments = refl; reads = omega arith }
 
-grows : (c : After-top) → Grows c.args.self.now c.loop-found.self
-grows c = takes_grows (length c.args.map.now) (found_in c.args.map.now) c.laws-2.ensures.lawful.map c.args.reader.now.moments c.args.self.now (marks_of _ _ c.laws.ensures c.requires.pages) c.loop-found.invariant.takes
+grows : (c : At-loop-heap_bytes) → Grows c.args.self.now c.loop-heap_bytes.self
+grows c = takes_grows (length c.args.map.now) (found_in c.args.map.now) c.laws-2.ensures.lawful.map c.args.reader.now.moments c.args.self.now (marks_of _ _ c.laws.ensures c.requires.pages) c.loop-heap_bytes.invariant.takes
 
-pub read_whole-requires-clause-pages : goal.read_whole-requires-clause-pages
-read_whole-requires-clause-pages c = (grows (goal.at.read_whole-requires-clause-pages c).After-top).dirty_len ∙ c.requires.pages
+pub read_some-more-requires-clause-pages : goal.read_some-more-requires-clause-pages
+read_some-more-requires-clause-pages c = (grows (goal.at.read_some-more-requires-clause-pages c).At-loop-heap_bytes).dirty_len ∙ c.requires.pages
 
--- what the words of one object add
-reads : (c : After-read_whole) → Takes (found_in c.args.map.now) c.args.reader.now.moments c.loop-found.self c.in-Some.found.len c.read_whole.new.self
-reads c =
-    let r = subst (λ (w : List (List ℕ)). ReadsNext (found_in c.args.map.now) w c.in-Some.found.len c.loop-found.self c.read_whole.new.self) c.loop-found.invariant.moments c.read_whole.ensures.read in
-    let all : 0 + c.in-Some.found.len ≡ c.in-Some.found.len = omega arith in
-    subst (λ (n : ℕ). Takes (found_in c.args.map.now) c.args.reader.now.moments c.loop-found.self n c.read_whole.new.self) all (read (settled nothing r.settles) r.reads)
+-- what some objects add
+reads : (c : After-read_some-more) → Takes (found_in c.args.map.now) c.args.reader.now.moments c.loop-heap_bytes.self c.read_some-more.result c.read_some-more.new.self
+reads c = subst (λ (w : List (List ℕ)). Takes (found_in c.args.map.now) w c.loop-heap_bytes.self c.read_some-more.result c.read_some-more.new.self) c.loop-heap_bytes.invariant.moments c.read_some-more.ensures.takes
 
-pub loop-found-smaller : goal.loop-found-smaller
-loop-found-smaller c =
-    let s = grows (goal.at.loop-found-smaller c).After-top in
-    let r = takes_cost (length c.args.map.now) (found_in c.args.map.now) c.laws-2.ensures.lawful.map c.args.reader.now.moments _ (s.marks_len ∙ marks_of _ _ c.laws.ensures c.requires.pages) (reads (goal.at.loop-found-smaller c).After-read_whole) in
-    let some = c.in-Some.ensures.placed.some in
+pub returns-then-more-eq0-clause-takes : goal.returns-then-more-eq0-clause-takes
+returns-then-more-eq0-clause-takes c =
+    let none = c.if-more-eq0.true in
+    let all : c.loop-heap_bytes.read + c.read_some-more.result ≡ c.loop-heap_bytes.read = omega arith in
+    subst (λ (n : ℕ). Takes (found_in c.args.map.now) c.args.reader.now.moments c.args.self.now n c.read_some-more.new.self) all
+    (takes_trans (found_in c.args.map.now) c.args.reader.now.moments c.args.self.now c.loop-heap_bytes.self c.loop-heap_bytes.invariant.takes (reads (goal.at.returns-then-more-eq0-clause-takes c).After-read_some-more))
+
+pub loop-heap_bytes-smaller : goal.loop-heap_bytes-smaller
+loop-heap_bytes-smaller c =
+    let s = grows (goal.at.loop-heap_bytes-smaller c).At-loop-heap_bytes in
+    let r = takes_cost (length c.args.map.now) (found_in c.args.map.now) c.laws-2.ensures.lawful.map c.args.reader.now.moments _ (s.marks_len ∙ marks_of _ _ c.laws.ensures c.requires.pages) (reads (goal.at.loop-heap_bytes-smaller c).After-read_some-more) in
+    let some = c.if-more-eq0.false in
     omega arith
 
-pub loop-found-preserved : goal.loop-found-preserved
-loop-found-preserved c =
-    let a = (goal.at.loop-found-preserved c).After-read_whole in
-    let i = c.loop-found.invariant in
-    let e = c.read_whole.ensures in
-    let n = c.from-read.ensures in
-    let w = i.within in
-    let most = c.if-not-is_whole.ensures.most refl in
+pub loop-heap_bytes-preserved : goal.loop-heap_bytes-preserved
+loop-heap_bytes-preserved c =
+    let i = c.loop-heap_bytes.invariant in
+    let e = c.read_some-more.ensures in
+    let within = i.within in
+    let most = e.most in
     record {
-      takes = subst (λ (k : ℕ). Takes (found_in c.args.map.now) c.args.reader.now.moments c.args.self.now (c.loop-found.read + k) c.read_whole.new.self) (sym n)
-          (takes_trans (found_in c.args.map.now) c.args.reader.now.moments c.args.self.now c.loop-found.self i.takes (reads a));
-      known = e.known c.args.known i.known;
+      takes = takes_trans (found_in c.args.map.now) c.args.reader.now.moments c.args.self.now c.loop-heap_bytes.self i.takes (reads (goal.at.loop-heap_bytes-preserved c).After-read_some-more);
+      known = e.known;
       done = e.done;
       within = omega arith;
       words = e.words ∙ i.words;

@@ -5,8 +5,8 @@ use Rattle.marker.specs.Work.{cost}
 use Rattle.marker.specs.Entries.{AreUnreadFrom, IsSpent, Takes}
 use Rattle.marker.proofs.marker.Marker.read_wholes.Given as goal
 
-abbrev pub invariant-loop-found : goal.invariant-loop-found
-invariant-loop-found l = record {
+abbrev pub invariant-loop-heap_bytes : goal.invariant-loop-heap_bytes
+invariant-loop-heap_bytes l = record {
   takes : Takes (found_in l.map) l.initial.reader.moments l.initial.self l.read l.self;
   known : AreUnreadFrom (found_in l.map) l.self l.known l.self.stack;
   done : (e : Entry) → l.self.current ≡ Some e → IsSpent (found_in l.map) l.self e;
@@ -16,5 +16,5 @@ invariant-loop-found l = record {
   reads : l.reader.reads ≡ l.initial.reader.reads + l.read;
 }
 
-abbrev pub decreases-loop-found : goal.decreases-loop-found
-decreases-loop-found l = cost (found_in l.map) l.self
+abbrev pub decreases-loop-heap_bytes : goal.decreases-loop-heap_bytes
+decreases-loop-heap_bytes l = cost (found_in l.map) l.self

@@ -1,0 +1,131 @@
+use Rattle.std.proofs.Common.{◌≡◌, ℕ, ◌+◌, ◌<◌, ◌≤◌, ◌∙◌, ◌++◌, ◌∷◌, List, [], length, map, get_or, refl, sym, ap, subst, append-nil, arith}
+use Rattle.std.specs.Prelude.{drop}
+use Rattle.std.proofs.lemmas.List.{drop_more, length-map, length-reverse}
+use Rattle.std.proofs.lemmas.List.Elements.{Contains-get_or}
+use Rattle.words.specs.declared.limits.TheConstants.{MARK_STACK_ENTRIES}
+use Rattle.block_map.specs.declared.found.Found.{Found}
+use Rattle.block_map.specs.FoundIn.{found_in}
+use Rattle.marker.specs.declared.entry.Entry.{Entry}
+use Rattle.marker.specs.declared.together.Begun.{Begun}
+use Rattle.marker.specs.Marking.{with_stack}
+use Rattle.marker.specs.Growth.{entry_of}
+use Rattle.marker.specs.Entries.{IsUnread, Takes, nothing}
+use Rattle.marker.specs.Begun.{IsBegun, Finishes, entry_begun, entries_begun, words_begun}
+use Rattle.marker.proofs.Beginning.{entries_first, words_first}
+use Rattle.marker.proofs.Closures.{marks_of}
+use Rattle.marker.proofs.Finishing.{begun_more, finished_known, finished_marks, finished_sizes, finished_few, finished_spent, finished_stack, finished_takes, next}
+use Rattle.marker.proofs.marker.Marker.finish_objects.Goals as goal
+use Rattle.marker.proofs.marker.Marker.finish_objects.Goals.{After-from-read}
+
+pub loop-k-init : goal.loop-k-init
+loop-k-init c =
+    let es = c.args.self.now.stack ++ entries_begun c.args.begun.now.items in
+    record {
+      takes = ([], sym (append-nil c.args.self.now.stack), subst (λ l. Takes (found_in c.args.map.now) c.args.reader.now.moments (with_stack c.args.self.now es) 0 (with_stack c.args.self.now l)) (sym (append-nil es)) nothing);
+      begun = c.requires.begun;
+      pages = c.requires.pages;
+      size = marks_of _ _ c.laws.ensures c.requires.pages;
+      room = c.requires.room;
+      all = omega arith;
+      known = λ n k. k;
+      done = c.requires.done;
+      words = refl;
+      moments = refl;
+      reads = omega arith;
+    }
+
+-- the object that is read to its end
+abbrev one : After-from-read → Begun
+one c = get_or c.args.begun.now.items c.loop-k.k (record { base = 0; len = 0; first = 0; second = 0 })
+
+abbrev others : After-from-read → List Begun
+others c = drop (c.loop-k.k + 1) c.args.begun.now.items
+
+inside : (c : After-from-read) → c.loop-k.k < length c.args.begun.now.items
+inside c = let t = c.loop-k-test.true in let n = c.len-k-end.ensures.value in omega arith
+
+is_begun : (c : After-from-read) → IsBegun (length c.args.map.now) (found_in c.args.map.now) c.args.reader.now.moments c.loop-k.self (one c)
+is_begun c = c.loop-k.invariant.begun (one c) (Contains-get_or c.args.begun.now.items c.loop-k.k _ (inside c))
+
+-- it and the others were left
+left : (c : After-from-read) → drop c.loop-k.k c.args.begun.now.items ≡ one c ∷ others c
+left c = drop_more c.args.begun.now.items c.loop-k.k _ (inside c)
+
+abbrev object : After-from-read → Found
+object c = (is_begun c).object
+
+entry_is : (c : After-from-read) → entry_begun (one c) ≡ entry_of (object c)
+entry_is c = ap (λ (n : ℕ). record { base = n; next = 0 }) (sym (is_begun c).unread.base)
+
+finishes : (c : After-from-read) → Finishes (found_in c.args.map.now) c.args.reader.now.moments (object c) c.loop-k.self c.finish_begun.new.self
+finishes c =
+    let i = is_begun c in
+    let same = ap (λ (l : List Begun). get_or l c.loop-k.k (record { base = 0; len = 0; first = 0; second = 0 })) c.deref.ensures.0 in
+    let base = i.unread.base ∙ sym (ap (λ (b : Begun). b.base) same) in
+    subst (λ (w : List (List ℕ)). Finishes (found_in c.args.map.now) w i.object c.loop-k.self c.finish_begun.new.self) c.loop-k.invariant.moments
+    (c.finish_begun.ensures.finishes i.object (ap (found_in c.args.map.now) (sym base) ∙ i.unread.object) base)
+
+entries_are : (c : After-from-read) → entries_begun (drop c.loop-k.k c.args.begun.now.items) ≡ entries_begun (others c) ++ entry_of (object c) ∷ []
+entries_are c = ap entries_begun (left c) ∙ entries_first (others c) (one c) ∙ ap (λ e. entries_begun (others c) ++ e ∷ []) (entry_is c)
+
+-- the others wait behind what was there, below what it leads to
+abbrev waiting : After-from-read → List Entry
+waiting c = entries_begun (others c)
+
+many : (c : After-from-read) → length (waiting c) ≡ length (others c)
+many c = length-reverse (map entry_begun (others c)) ∙ length-map (others c) entry_begun
+
+room : (c : After-from-read) → length c.loop-k.self.stack + length (waiting c) + (object c).len ≤ MARK_STACK_ENTRIES
+room c =
+    let len = (is_begun c).len in
+    let words = ap words_begun (left c) ∙ words_first (others c) (one c) in
+    let count : length (drop c.loop-k.k c.args.begun.now.items) ≡ 1 + length (others c) = ap length (left c) ∙ (let n : length (one c ∷ others c) ≡ 1 + length (others c) = omega arith in n) in
+    let m = many c in
+    let before = c.loop-k.invariant.room in
+    omega arith
+
+unread : (c : After-from-read) → IsUnread (found_in c.args.map.now) c.loop-k.self (entry_of (object c)) (object c)
+unread c = subst (λ e. IsUnread (found_in c.args.map.now) c.loop-k.self e (object c)) (entry_is c) (is_begun c).unread
+
+pub loop-k-preserved : goal.loop-k-preserved
+loop-k-preserved c =
+    let found = found_in c.args.map.now in
+    let pages = length c.args.map.now in
+    let map_is = c.requires.lawful.map in
+    let moments = c.args.reader.now.moments in
+    let i = c.loop-k.invariant in
+    let a = c.loop-k.self in let b = c.finish_begun.new.self in
+    let o = is_begun c in
+    let f : Found = object c in
+    let len = o.len in
+    let x = finishes c in
+    let u = unread c in
+    let start = c.args.self.now.stack in
+    let upper = i.takes.0 in let is = i.takes.1 in
+    let read = c.from-read.ensures in
+    let same = ap (λ (l : List Begun). (get_or l c.loop-k.k (record { base = 0; len = 0; first = 0; second = 0 })).len) c.deref.ensures.0 in
+    let words = ap words_begun (left c) ∙ words_first (others c) (one c) in
+    let count : length (drop c.loop-k.k c.args.begun.now.items) ≡ 1 + length (others c) = ap length (left c) ∙ (let n : length (one c ∷ others c) ≡ 1 + length (others c) = omega arith in n) in
+    let takes = subst (λ es. Takes found moments (with_stack c.args.self.now (start ++ entries_begun c.args.begun.now.items)) c.loop-k.read (with_stack a (start ++ es ++ upper))) (entries_are c) i.takes.2 in
+    let more = finished_takes pages found map_is moments f a b i.size x u o.one_page start (waiting c) upper is (room c) i.done (with_stack c.args.self.now (start ++ entries_begun c.args.begun.now.items)) c.loop-k.read takes in
+    let sizes = finished_sizes pages found map_is moments f a b i.size x u o.one_page in
+    let few = finished_few pages found map_is moments f a b i.size x u o.one_page start (waiting c) upper is (room c) in
+    let e = c.finish_begun.ensures in
+    record {
+      takes = (
+        next pages found map_is moments f a b i.size x u o.one_page start (waiting c) upper is (room c),
+        finished_stack pages found map_is moments f a b i.size x u o.one_page start (waiting c) upper is (room c),
+        subst (λ (n : ℕ). Takes found moments (with_stack c.args.self.now (start ++ entries_begun c.args.begun.now.items)) n (with_stack b (start ++ waiting c ++ next pages found map_is moments f a b i.size x u o.one_page start (waiting c) upper is (room c))))
+            (let n : c.loop-k.read + f.len ≡ c.loop-k.read + c.from-read.result = omega arith in n) more,
+      );
+      begun = begun_more pages found moments a b (finished_marks pages found map_is moments f a b i.size x u o.one_page) c.args.begun.now.items i.begun;
+      pages = sizes.1 ∙ i.pages;
+      size = sizes.0 ∙ i.size;
+      room = (let r = i.room in omega arith);
+      all = (let l = i.all in omega arith);
+      known = λ n k. finished_known pages found map_is moments f a b i.size x u o.one_page n (i.known n k);
+      done = finished_spent pages found map_is moments f a b i.size x u o.one_page start (waiting c) upper is (room c);
+      words = e.words ∙ i.words;
+      moments = e.moments ∙ i.moments;
+      reads = (let r = e.reads in let k = i.reads in omega arith);
+    }

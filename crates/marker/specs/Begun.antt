@@ -1,0 +1,58 @@
+-- Objects that are begun together.
+use Rattle.std.specs.Prelude.{◌≡◌, ℕ, ◌+◌, ◌-◌, ◌<◌, ◌≤◌, Bool, List, map, reverse, sum_by, Contains, Option}
+use Rattle.words.specs.declared.limits.TheConstants.{WORD_BYTES}
+use Rattle.words.specs.Layout.{page_of}
+use Rattle.pages.specs.Memory.{word_at}
+use Rattle.pages.specs.Reads.{IsWoven}
+use Rattle.block_map.specs.declared.found.Found.{Found}
+use Rattle.block_map.specs.Objects.{IsPlaced}
+use Rattle.marker.specs.declared.entry.Entry.{Entry}
+use Rattle.marker.specs.declared.together.Begun.{Begun}
+use Rattle.marker.specs.Marking.{Marking, bytes_of, with_current, word_address}
+use Rattle.marker.specs.Growth.{MarksWords, TellsStray, words_from}
+use Rattle.marker.specs.Beside.{MarksRow}
+use Rattle.marker.specs.Entries.{IsUnread}
+
+-- the entry of a begun object, as it stood on the stack
+abbrev pub entry_begun : Begun → Entry
+entry_begun b = record { base = b.base; next = 0 }
+
+-- the entries of begun objects, as they stood on the stack: the first one begun was on top
+abbrev pub entries_begun : List Begun → List Entry
+entries_begun bs = reverse (map entry_begun bs)
+
+-- the words of begun objects, with the two of each that are read
+abbrev pub words_begun : List Begun → ℕ
+words_begun bs = sum_by (λ (b : Begun). b.len) bs
+
+-- this is the word at the address, as it was at one of the moments
+abbrev pub IsSeen : List (List ℕ) → ℕ → ℕ → Type 0
+IsSeen moments address w = (seen : List ℕ) × IsWoven moments seen × (w ≡ word_at seen address)
+
+-- All words of this object were left to read, and stand on one page; its first two are these.
+pub record IsBegun (pages : ℕ) (found : ℕ → Option Found) (moments : List (List ℕ)) (m : Marking) (b : Begun) : Type 0 where
+  pub object : Found
+  pub unread : IsUnread found m (entry_begun b) object
+  pub len : b.len ≡ object.len
+  pub two : 2 ≤ b.len
+  pub placed : IsPlaced pages object
+  pub one_page : (i : ℕ) → i < object.len → page_of (word_address object i) ≡ page_of (word_address object 0)
+  pub first : IsSeen moments b.base b.first
+  pub second : IsSeen moments (b.base + WORD_BYTES) b.second
+
+-- each of these objects is begun
+abbrev pub AreBegun : ℕ → (ℕ → Option Found) → List (List ℕ) → Marking → List Begun → Type 0
+AreBegun pages found moments m bs = (b : Begun) → Contains bs b → IsBegun pages found moments m b
+
+-- What is done with the words of an object behind its first two, and whether one of them is stray.
+pub record MarksRest (found : ℕ → Option Found) (moments : List (List ℕ)) (f : Found) (bytes : ℕ) (stray : Bool) (old new : Marking) : Type 0 where
+  pub seen : List ℕ
+  pub woven : IsWoven moments seen
+  pub marks : MarksWords found old (words_from seen f 2 (f.len - 2)) new
+  pub tells : TellsStray found bytes (words_from seen f 2 (f.len - 2)) stray
+
+-- All words of an object are done with, and its entry is the one that is being read now, to its end.
+pub record Finishes (found : ℕ → Option Found) (moments : List (List ℕ)) (f : Found) (old new : Marking) : Type 0 where
+  pub mid : Marking
+  pub row : MarksRow found moments f 0 f.len (bytes_of old) (page_of (word_address f 0)) old mid
+  pub new_is : new ≡ with_current mid (record { base = f.base; next = f.len })

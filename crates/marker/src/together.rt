@@ -1,0 +1,280 @@
+//! Objects that are begun together: the first words of several are read before one of them is read on. So the processor
+//! fetches all of these words at once, where it would wait for those of one object after the other.
+ghost use Rattle.std.specs.Prelude.{◌≡◌, ℕ, ◌+◌, ◌*◌, ◌<◌, ◌≤◌, ◌++◌, ◌∷◌, [], length, true, Some};
+ghost use Rattle.words.specs.declared.limits.TheConstants.{FIRST_ADDRESS, MARK_STACK_ENTRIES, MOST_PAGES, PAGE_BYTES, PAGE_WORDS};
+ghost use Rattle.words.specs.Layout.{page_of};
+ghost use Rattle.block_map.specs.declared.found.Found.{Found};
+ghost use Rattle.block_map.specs.Objects.{IsPlaced, LiesOnPage};
+ghost use Rattle.block_map.specs.FoundIn.{found_in, IsLawful};
+ghost use Rattle.marker.specs.declared.entry.Entry.{Entry};
+ghost use Rattle.marker.specs.Marking.{with_stack, word_address};
+ghost use Rattle.marker.specs.Beside.{MarksRow};
+ghost use Rattle.marker.specs.Entries.{IsSpent, IsOnTop, AreUnreadFrom, Takes};
+ghost use Rattle.marker.specs.Begun.{IsBegun, AreBegun, MarksRest, Finishes, entry_begun, entries_begun, words_begun};
+
+use crate::entry::Entry;
+use crate::marker::{ENTRIES, Marker};
+use arrayvec::ArrayVec;
+use block_map::{BlockMap, Found};
+use pages::Reader;
+use words::limits::{PAGE_WORDS, WORD_BYTES};
+use words::{PageNo, page_of};
+
+// So many objects are begun together.
+pub(crate) const TOGETHER: usize = 8;
+
+/// An object that was taken off the stack, and its first two words.
+#[derive(Clone, Copy, Debug, Default)]
+pub(crate) struct Begun {
+    base: u64,
+    len: u32,
+    first: u64,
+    second: u64,
+}
+
+// Whether an object has two words, and so many at most.
+#[inline]
+fn is_short(found: Found, most: u64) -> bool
+    ensures two { result ≡ true → 2 ≤ found.len }
+    ensures most { result ≡ true → found.len ≤ most }
+{
+    found.len >= 2 && u64::from(found.len) <= most
+}
+
+impl Marker {
+    // Takes the object of the entry on top off the stack, and reads its first two words.
+    #[inline]
+    fn begin_top(&mut self, map: &BlockMap, reader: &mut Reader, found: Found) -> Begun
+        requires top { IsOnTop (found_in map.now) self.old found }
+        requires placed { IsPlaced (length map.now) found × (length map.now ≤ MOST_PAGES) }
+        requires on_page { LiesOnPage found }
+        requires two { 2 ≤ found.len }
+        requires short { found.len ≤ PAGE_WORDS }
+        requires memory { length reader.old.words ≡ PAGE_WORDS * length map.now }
+        ensures begun { IsBegun (length map.now) (found_in map.now) reader.old.moments self.new result }
+        ensures len { result.len ≡ found.len }
+        ensures taken { self.old ≡ with_stack self.new (self.new.stack ++ entry_begun result ∷ []) }
+        ensures words { reader.new.words ≡ reader.old.words }
+        ensures moments { reader.new.moments ≡ reader.old.moments }
+        ensures reads { reader.new.reads ≡ reader.old.reads + 2 }
+    {
+        self.drop_top();
+        let first = reader.read(found.base);
+        let second = reader.read(found.base + WORD_BYTES);
+        Begun {
+            base: found.base,
+            len: found.len,
+            first,
+            second,
+        }
+    }
+
+    // Begins the objects of the entries on top of the stack, while these are known to have words: so many objects, of
+    // as many words in all, at most.
+    #[inline]
+    fn begin_objects(
+        &mut self,
+        map: &BlockMap,
+        reader: &mut Reader,
+        known: usize,
+        most: u64,
+        begun: &mut ArrayVec<Begun, TOGETHER>,
+    )
+        requires known { AreUnreadFrom (found_in map.now) self.old known self.old.stack }
+        requires most { most ≤ PAGE_WORDS }
+        requires memory { length reader.old.words ≡ PAGE_WORDS * length map.now }
+        requires none { begun.old.items ≡ [] }
+        ensures begun { AreBegun (length map.now) (found_in map.now) reader.old.moments self.new begun.new.items }
+        ensures taken { self.old ≡ with_stack self.new (self.new.stack ++ entries_begun begun.new.items) }
+        ensures known { AreUnreadFrom (found_in map.now) self.new known self.new.stack }
+        ensures most { words_begun begun.new.items ≤ most }
+        ensures words { reader.new.words ≡ reader.old.words }
+        ensures moments { reader.new.moments ≡ reader.old.moments }
+        ensures reads { reader.new.reads ≡ reader.old.reads + 2 * length begun.new.items }
+    {
+        map.laws();
+        let mut left = most;
+        for _ in 0..TOGETHER {
+            let Some(found) = self.top(map, known) else {
+                return;
+            };
+            if !is_short(found, left) {
+                return;
+            }
+            left -= u64::from(found.len);
+            begun.push(self.begin_top(map, reader, found));
+        }
+    }
+
+    // Marks what the words of a begun object behind its first two point into. Answers whether one of them is stray.
+    #[inline(never)]
+    fn mark_behind(
+        &mut self,
+        map: &BlockMap,
+        heap_bytes: u64,
+        reader: &mut Reader,
+        begun: Begun,
+    ) -> bool
+        requires pages { length self.old.dirty ≡ length map.now }
+        requires lawful { IsLawful map.now }
+        requires bytes { heap_bytes ≡ PAGE_BYTES * length map.now }
+        requires memory { length reader.old.words ≡ PAGE_WORDS * length map.now }
+        requires begun { IsBegun (length map.now) (found_in map.now) reader.old.moments self.old begun }
+        ensures marks { (f : Found) → found_in map.now begun.base ≡ Some f → f.base ≡ begun.base → MarksRest (found_in map.now) reader.old.moments f (PAGE_BYTES * length map.now) result self.old self.new }
+        ensures words { reader.new.words ≡ reader.old.words }
+        ensures moments { reader.new.moments ≡ reader.old.moments }
+        ensures reads { reader.new.reads + 2 ≡ reader.old.reads + begun.len }
+    {
+        self.laws();
+        reader.laws();
+        let others = u64::from(begun.len) - 2;
+        self.mark_all(
+            map,
+            heap_bytes,
+            reader.read_run(begun.base + 2 * WORD_BYTES, others),
+        )
+    }
+
+    // The same. Many objects have no more than two words, so that the loop over others is no part of their path.
+    #[inline]
+    fn mark_rest(
+        &mut self,
+        map: &BlockMap,
+        heap_bytes: u64,
+        reader: &mut Reader,
+        begun: Begun,
+    ) -> bool
+        requires pages { length self.old.dirty ≡ length map.now }
+        requires lawful { IsLawful map.now }
+        requires bytes { heap_bytes ≡ PAGE_BYTES * length map.now }
+        requires memory { length reader.old.words ≡ PAGE_WORDS * length map.now }
+        requires begun { IsBegun (length map.now) (found_in map.now) reader.old.moments self.old begun }
+        ensures marks { (f : Found) → found_in map.now begun.base ≡ Some f → f.base ≡ begun.base → MarksRest (found_in map.now) reader.old.moments f (PAGE_BYTES * length map.now) result self.old self.new }
+        ensures words { reader.new.words ≡ reader.old.words }
+        ensures moments { reader.new.moments ≡ reader.old.moments }
+        ensures reads { reader.new.reads + 2 ≡ reader.old.reads + begun.len }
+    {
+        reader.laws();
+        if begun.len == 2 {
+            return false;
+        }
+        self.mark_behind(map, heap_bytes, reader, begun)
+    }
+
+    // Marks what the words of a begun object point into. Its page is carried if one of them is stray.
+    #[inline]
+    fn mark_begun(&mut self, map: &BlockMap, heap_bytes: u64, reader: &mut Reader, begun: Begun)
+        requires pages { length self.old.dirty ≡ length map.now }
+        requires lawful { IsLawful map.now }
+        requires bytes { heap_bytes ≡ PAGE_BYTES * length map.now }
+        requires memory { length reader.old.words ≡ PAGE_WORDS * length map.now }
+        requires begun { IsBegun (length map.now) (found_in map.now) reader.old.moments self.old begun }
+        ensures row { (f : Found) → found_in map.now begun.base ≡ Some f → f.base ≡ begun.base → MarksRow (found_in map.now) reader.old.moments f 0 f.len (PAGE_BYTES * length map.now) (page_of (word_address f 0)) self.old self.new }
+        ensures words { reader.new.words ≡ reader.old.words }
+        ensures moments { reader.new.moments ≡ reader.old.moments }
+        ensures reads { reader.new.reads + 2 ≡ reader.old.reads + begun.len }
+    {
+        self.laws();
+        reader.laws();
+        let first = self.mark_word(map, heap_bytes, begun.first);
+        let second = self.mark_word(map, heap_bytes, begun.second);
+        let rest = self.mark_rest(map, heap_bytes, reader, begun);
+        if first | second | rest {
+            self.carry(page_of(begun.base) as PageNo);
+        }
+    }
+
+    // Reads a begun object to its end: it is the one that is being read then, and has no word left.
+    #[inline]
+    fn finish_begun(&mut self, map: &BlockMap, heap_bytes: u64, reader: &mut Reader, begun: Begun)
+        requires pages { length self.old.dirty ≡ length map.now }
+        requires lawful { IsLawful map.now }
+        requires bytes { heap_bytes ≡ PAGE_BYTES * length map.now }
+        requires memory { length reader.old.words ≡ PAGE_WORDS * length map.now }
+        requires begun { IsBegun (length map.now) (found_in map.now) reader.old.moments self.old begun }
+        ensures finishes { (f : Found) → found_in map.now begun.base ≡ Some f → f.base ≡ begun.base → Finishes (found_in map.now) reader.old.moments f self.old self.new }
+        ensures words { reader.new.words ≡ reader.old.words }
+        ensures moments { reader.new.moments ≡ reader.old.moments }
+        ensures reads { reader.new.reads + 2 ≡ reader.old.reads + begun.len }
+    {
+        self.mark_begun(map, heap_bytes, reader, begun);
+        self.set_current(Entry {
+            base: begun.base,
+            next: begun.len,
+        });
+    }
+
+    // Reads begun objects to their ends, where the entry that is being read has no word left and the stack has room for all
+    // that they may lead to. Answers how many words they have.
+    #[inline]
+    fn finish_objects(
+        &mut self,
+        map: &BlockMap,
+        heap_bytes: u64,
+        reader: &mut Reader,
+        begun: &ArrayVec<Begun, TOGETHER>,
+    ) -> u64
+        requires pages { length self.old.dirty ≡ length map.now }
+        requires lawful { IsLawful map.now }
+        requires bytes { heap_bytes ≡ PAGE_BYTES * length map.now }
+        requires memory { length reader.old.words ≡ PAGE_WORDS * length map.now }
+        requires begun { AreBegun (length map.now) (found_in map.now) reader.old.moments self.old begun.now.items }
+        requires room { length self.old.stack + length begun.now.items + words_begun begun.now.items ≤ MARK_STACK_ENTRIES }
+        requires done { (e : Entry) → self.old.current ≡ Some e → IsSpent (found_in map.now) self.old e }
+        ensures takes { Takes (found_in map.now) reader.old.moments (with_stack self.old (self.old.stack ++ entries_begun begun.now.items)) result self.new }
+        ensures known { (n : ℕ) → AreUnreadFrom (found_in map.now) self.old n self.old.stack → AreUnreadFrom (found_in map.now) self.new n self.new.stack }
+        ensures done { (e : Entry) → self.new.current ≡ Some e → IsSpent (found_in map.now) self.new e }
+        ensures all { result ≡ words_begun begun.now.items }
+        ensures words { reader.new.words ≡ reader.old.words }
+        ensures moments { reader.new.moments ≡ reader.old.moments }
+        ensures reads { reader.new.reads + 2 * length begun.now.items ≡ reader.old.reads + result }
+    {
+        self.laws();
+        let mut read = 0;
+        for k in 0..begun.len() {
+            let one = begun[k];
+            self.finish_begun(map, heap_bytes, reader, one);
+            read += u64::from(one.len);
+        }
+        read
+    }
+
+    // Reads objects whole that are begun together: those of the entries on top of the stack, while these are known to have
+    // words, at most so many words, and only as many as the stack has room for what they may lead to. Answers how many words. It is
+    // no part of its caller, which has lists to follow that have one entry.
+    #[inline(never)]
+    pub(crate) fn read_together(
+        &mut self,
+        map: &BlockMap,
+        heap_bytes: u64,
+        reader: &mut Reader,
+        known: usize,
+        most: u64,
+    ) -> u64
+        requires pages { length self.old.dirty ≡ length map.now }
+        requires lawful { IsLawful map.now }
+        requires bytes { heap_bytes ≡ PAGE_BYTES * length map.now }
+        requires memory { length reader.old.words ≡ PAGE_WORDS * length map.now }
+        requires known { AreUnreadFrom (found_in map.now) self.old known self.old.stack }
+        requires done { (e : Entry) → self.old.current ≡ Some e → IsSpent (found_in map.now) self.old e }
+        ensures takes { Takes (found_in map.now) reader.old.moments self.old result self.new }
+        ensures known { AreUnreadFrom (found_in map.now) self.new known self.new.stack }
+        ensures done { (e : Entry) → self.new.current ≡ Some e → IsSpent (found_in map.now) self.new e }
+        ensures most { result ≤ most }
+        ensures words { reader.new.words ≡ reader.old.words }
+        ensures moments { reader.new.moments ≡ reader.old.moments }
+        ensures reads { reader.new.reads ≡ reader.old.reads + result }
+    {
+        self.laws();
+        let room = (ENTRIES - self.depth()) as u64;
+        let mut begun = ArrayVec::new();
+        self.begin_objects(
+            map,
+            reader,
+            known,
+            most.min(PAGE_WORDS).min(room),
+            &mut begun,
+        );
+        self.finish_objects(map, heap_bytes, reader, &begun)
+    }
+}
