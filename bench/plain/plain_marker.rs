@@ -10,6 +10,19 @@ const ENTRIES: usize = 256;
 // A row of fewer words is read one by one.
 const FEW: usize = 16;
 
+// So many objects are begun together, unless more entries wait than `CROWDED`.
+const TOGETHER: usize = 8;
+const CROWDED: usize = ENTRIES - 4 * TOGETHER;
+
+// An object that was taken off the stack, and its first two words.
+#[derive(Clone, Copy, Default)]
+struct Begun {
+    base: u64,
+    len: u32,
+    first: u64,
+    second: u64,
+}
+
 /// The granule of an address, counted from the heap's first one.
 #[inline]
 pub fn granule(address: u64) -> usize {
@@ -228,20 +241,86 @@ impl Marker {
         (known < self.len).then(|| object_at(map, self.stack[self.len - 1].0))
     }
 
-    // Objects that are read whole, one after the other.
+    // Objects that are read whole: several together where so many wait, and else one after the other.
     #[inline(never)]
     fn read_wholes(&mut self, map: &[Page], heap_bytes: u64, memory: &[u64], known: usize, most: u64) -> u64 {
         let mut read = 0;
-        while let Some(found) = self.top(map, known) {
-            let len = u64::from(found.len);
-            let on_page = 512 - (found.base - START) / 8 % 512;
-            if len > on_page.min(most - read) {
+        loop {
+            let more = if self.len < known + TOGETHER || self.len > CROWDED {
+                self.read_top(map, heap_bytes, memory, known, most - read)
+            } else {
+                self.read_together(map, heap_bytes, memory, known, most - read)
+            };
+            if more == 0 {
                 return read;
             }
+            read += more;
+        }
+    }
+
+    #[inline]
+    fn read_top(&mut self, map: &[Page], heap_bytes: u64, memory: &[u64], known: usize, most: u64) -> u64 {
+        let Some(found) = self.top(map, known) else {
+            return 0;
+        };
+        let len = u64::from(found.len);
+        if len > most.min(512) {
+            return 0;
+        }
+        self.len -= 1;
+        self.mark_words(map, heap_bytes, memory, found.base, 0, len);
+        self.current = Some((found.base, found.len));
+        len
+    }
+
+    // Takes objects off the stack and reads the first two words of each.
+    #[inline]
+    fn begin_objects(&mut self, map: &[Page], memory: &[u64], known: usize, most: u64, begun: &mut [Begun; TOGETHER]) -> usize {
+        let mut left = most;
+        for number in 0..TOGETHER {
+            let Some(found) = self.top(map, known) else {
+                return number;
+            };
+            let len = u64::from(found.len);
+            if len < 2 || len > left {
+                return number;
+            }
+            left -= len;
             self.len -= 1;
-            self.mark_words(map, heap_bytes, memory, found.base, 0, len);
-            self.current = Some((found.base, found.len));
-            read += len;
+            let place = ((found.base - START) / 8) as usize;
+            let words = &memory[place..place + 2];
+            begun[number] = Begun { base: found.base, len: found.len, first: words[0], second: words[1] };
+        }
+        TOGETHER
+    }
+
+    #[inline(never)]
+    fn mark_behind(&mut self, map: &[Page], heap_bytes: u64, memory: &[u64], begun: Begun) -> bool {
+        let place = ((begun.base - START) / 8) as usize;
+        let words = &memory[place + 2..place + begun.len as usize];
+        if words.len() < FEW { self.mark_each(map, heap_bytes, words) } else { self.mark_many(map, heap_bytes, words) }
+    }
+
+    #[inline]
+    fn finish(&mut self, map: &[Page], heap_bytes: u64, memory: &[u64], begun: Begun) {
+        let first = self.mark_word(map, heap_bytes, begun.first);
+        let second = self.mark_word(map, heap_bytes, begun.second);
+        let rest = begun.len > 2 && self.mark_behind(map, heap_bytes, memory, begun);
+        if first | second | rest {
+            set(&mut self.carried, ((begun.base - START) / 4_096) as usize);
+        }
+        self.current = Some((begun.base, begun.len));
+    }
+
+    #[inline(never)]
+    fn read_together(&mut self, map: &[Page], heap_bytes: u64, memory: &[u64], known: usize, most: u64) -> u64 {
+        let room = (ENTRIES - self.len) as u64;
+        let mut begun = [Begun::default(); TOGETHER];
+        let count = self.begin_objects(map, memory, known, most.min(512).min(room), &mut begun);
+        let mut read = 0;
+        for one in &begun[..count] {
+            self.finish(map, heap_bytes, memory, *one);
+            read += u64::from(one.len);
         }
         read
     }
