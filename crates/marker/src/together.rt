@@ -23,13 +23,14 @@ use words::{PageNo, page_of};
 // So many objects are begun together.
 pub(crate) const TOGETHER: usize = 8;
 
-/// An object that was taken off the stack, and its first two words.
+/// An object that was taken off the stack, and its first two words. They stand apart here, or a compiler would read both by
+/// one load, where each word that others write is to be read by a load of its own.
 #[derive(Clone, Copy, Debug, Default)]
 pub(crate) struct Begun {
-    base: u64,
-    len: u32,
     first: u64,
+    base: u64,
     second: u64,
+    len: u32,
 }
 
 // Whether an object has two words, and so many at most.
