@@ -1,5 +1,5 @@
 -- Objects that are begun together.
-use Rattle.std.specs.Prelude.{◌≡◌, ℕ, ◌+◌, ◌-◌, ◌<◌, ◌≤◌, Bool, List, map, reverse, sum_by, Contains, Option}
+use Rattle.std.specs.Prelude.{◌≡◌, ℕ, ◌+◌, ◌<◌, ◌≤◌, List, map, reverse, sum_by, Contains, Option}
 use Rattle.words.specs.declared.limits.TheConstants.{WORD_BYTES}
 use Rattle.words.specs.Layout.{page_of}
 use Rattle.pages.specs.Memory.{word_at}
@@ -9,7 +9,6 @@ use Rattle.block_map.specs.Objects.{IsPlaced}
 use Rattle.marker.specs.declared.entry.Entry.{Entry}
 use Rattle.marker.specs.declared.together.Begun.{Begun}
 use Rattle.marker.specs.Marking.{Marking, bytes_of, with_current, word_address}
-use Rattle.marker.specs.Growth.{MarksWords, TellsStray, words_from}
 use Rattle.marker.specs.Beside.{MarksRow}
 use Rattle.marker.specs.Entries.{IsUnread}
 
@@ -43,13 +42,6 @@ pub record IsBegun (pages : ℕ) (found : ℕ → Option Found) (moments : List 
 -- each of these objects is begun
 abbrev pub AreBegun : ℕ → (ℕ → Option Found) → List (List ℕ) → Marking → List Begun → Type 0
 AreBegun pages found moments m bs = (b : Begun) → Contains bs b → IsBegun pages found moments m b
-
--- What is done with the words of an object behind its first two, and whether one of them is stray.
-pub record MarksRest (found : ℕ → Option Found) (moments : List (List ℕ)) (f : Found) (bytes : ℕ) (stray : Bool) (old new : Marking) : Type 0 where
-  pub seen : List ℕ
-  pub woven : IsWoven moments seen
-  pub marks : MarksWords found old (words_from seen f 2 (f.len - 2)) new
-  pub tells : TellsStray found bytes (words_from seen f 2 (f.len - 2)) stray
 
 -- All words of an object are done with, and its entry is the one that is being read now, to its end.
 pub record Finishes (found : ℕ → Option Found) (moments : List (List ℕ)) (f : Found) (old new : Marking) : Type 0 where

@@ -10,7 +10,7 @@ ghost use Rattle.marker.specs.declared.entry.Entry.{Entry};
 ghost use Rattle.marker.specs.Marking.{with_stack, word_address};
 ghost use Rattle.marker.specs.Beside.{MarksRow};
 ghost use Rattle.marker.specs.Entries.{IsSpent, IsOnTop, AreUnreadFrom, Takes};
-ghost use Rattle.marker.specs.Begun.{IsBegun, AreBegun, MarksRest, Finishes, entry_begun, entries_begun, words_begun};
+ghost use Rattle.marker.specs.Begun.{IsBegun, AreBegun, Finishes, entry_begun, entries_begun, words_begun};
 
 use crate::entry::Entry;
 use crate::marker::{ENTRIES, Marker};
@@ -107,61 +107,6 @@ impl Marker {
         }
     }
 
-    // Marks what the words of a begun object behind its first two point into. Answers whether one of them is stray.
-    #[inline(never)]
-    fn mark_behind(
-        &mut self,
-        map: &BlockMap,
-        heap_bytes: u64,
-        reader: &mut Reader,
-        begun: Begun,
-    ) -> bool
-        requires pages { length self.old.dirty ≡ length map.now }
-        requires lawful { IsLawful map.now }
-        requires bytes { heap_bytes ≡ PAGE_BYTES * length map.now }
-        requires memory { length reader.old.words ≡ PAGE_WORDS * length map.now }
-        requires begun { IsBegun (length map.now) (found_in map.now) reader.old.moments self.old begun }
-        ensures marks { (f : Found) → found_in map.now begun.base ≡ Some f → f.base ≡ begun.base → MarksRest (found_in map.now) reader.old.moments f (PAGE_BYTES * length map.now) result self.old self.new }
-        ensures words { reader.new.words ≡ reader.old.words }
-        ensures moments { reader.new.moments ≡ reader.old.moments }
-        ensures reads { reader.new.reads + 2 ≡ reader.old.reads + begun.len }
-    {
-        self.laws();
-        reader.laws();
-        let others = u64::from(begun.len) - 2;
-        self.mark_all(
-            map,
-            heap_bytes,
-            reader.read_run(begun.base + 2 * WORD_BYTES, others),
-        )
-    }
-
-    // The same. Many objects have no more than two words, so that the loop over others is no part of their path.
-    #[inline]
-    fn mark_rest(
-        &mut self,
-        map: &BlockMap,
-        heap_bytes: u64,
-        reader: &mut Reader,
-        begun: Begun,
-    ) -> bool
-        requires pages { length self.old.dirty ≡ length map.now }
-        requires lawful { IsLawful map.now }
-        requires bytes { heap_bytes ≡ PAGE_BYTES * length map.now }
-        requires memory { length reader.old.words ≡ PAGE_WORDS * length map.now }
-        requires begun { IsBegun (length map.now) (found_in map.now) reader.old.moments self.old begun }
-        ensures marks { (f : Found) → found_in map.now begun.base ≡ Some f → f.base ≡ begun.base → MarksRest (found_in map.now) reader.old.moments f (PAGE_BYTES * length map.now) result self.old self.new }
-        ensures words { reader.new.words ≡ reader.old.words }
-        ensures moments { reader.new.moments ≡ reader.old.moments }
-        ensures reads { reader.new.reads + 2 ≡ reader.old.reads + begun.len }
-    {
-        reader.laws();
-        if begun.len == 2 {
-            return false;
-        }
-        self.mark_behind(map, heap_bytes, reader, begun)
-    }
-
     // Marks what the words of a begun object point into. Its page is carried if one of them is stray.
     #[inline]
     fn mark_begun(&mut self, map: &BlockMap, heap_bytes: u64, reader: &mut Reader, begun: Begun)
@@ -177,9 +122,11 @@ impl Marker {
     {
         self.laws();
         reader.laws();
+        let others = u64::from(begun.len) - 2;
         let first = self.mark_word(map, heap_bytes, begun.first);
         let second = self.mark_word(map, heap_bytes, begun.second);
-        let rest = self.mark_rest(map, heap_bytes, reader, begun);
+        let words = reader.read_run(begun.base + 2 * WORD_BYTES, others);
+        let rest = self.mark_all(map, heap_bytes, words);
         if first | second | rest {
             self.carry(page_of(begun.base) as PageNo);
         }

@@ -1,50 +1,66 @@
 use Rattle.std.proofs.Common.{◌≡◌, ◌+◌, ◌-◌, ◌*◌, ◌≤◌, ◌<◌, ◌∙◌, ◌∷◌, ◌||◌, ℕ, List, [], length, Some, sym, ap, subst, arith}
+use Rattle.std.specs.Prelude.{slice_range}
 use Rattle.std.proofs.lemmas.Option.{same_Some}
 use Rattle.words.specs.declared.limits.TheConstants.{PAGE_BYTES, PAGE_WORDS, WORD_BYTES}
 use Rattle.words.specs.Layout.{page_of}
+use Rattle.pages.specs.Memory.{word_index}
 use Rattle.pages.specs.Reads.{IsWoven}
 use Rattle.block_map.specs.declared.found.Found.{Found}
 use Rattle.block_map.specs.FoundIn.{found_in}
 use Rattle.marker.specs.Marking.{Marking, word_address}
 use Rattle.marker.specs.Growth.{MarksWords, TellsStray, begun, and_word, words_from}
 use Rattle.marker.specs.Beside.{MarksRow}
-use Rattle.marker.specs.Begun.{IsSeen, MarksRest}
+use Rattle.marker.specs.Begun.{IsSeen}
 use Rattle.marker.proofs.Beginning.{begun_words}
-use Rattle.marker.proofs.Words.{run_marked, run_carried, run_left, tells_append, words_same, words_append}
+use Rattle.marker.proofs.Words.{run_words, run_marked, run_carried, run_left, tells_append, words_same, words_append}
 use Rattle.marker.proofs.marker.Marker.mark_begun.Goals as goal
-use Rattle.marker.proofs.marker.Marker.mark_begun.Goals.{After-mark_rest-rest}
+use Rattle.marker.proofs.marker.Marker.mark_begun.Goals.{After-mark_all-rest}
 
-behind : (c : After-mark_rest-rest) → MarksRest (found_in c.args.map.now) c.args.reader.now.moments c.requires.begun.object (PAGE_BYTES * length c.args.map.now) c.mark_rest-rest.result c.mark_word-second.new.self c.mark_rest-rest.new.self
-behind c = let o = c.requires.begun.unread in c.mark_rest-rest.ensures.marks c.requires.begun.object (ap (found_in c.args.map.now) (sym o.base) ∙ o.object) o.base
+-- the words behind the first two
+rest : (c : After-mark_all-rest) → c.read_run-words.result ≡ words_from c.read_run-words.ensures.run.0 c.requires.begun.object 2 (c.requires.begun.object.len - 2)
+rest c =
+    let b = c.requires.begun in
+    let f : Found = b.object in
+    let n = c.from-others.ensures in let l = b.len in let two = b.two in
+    let above = b.placed.above in let low = b.placed.below in let al = b.placed.aligned in let m = c.requires.memory in
+    let seen = c.read_run-words.ensures.run.0 in
+    let size = c.read_run-words.ensures.run.1.size c.args.reader.now.words c.laws-2.ensures.one in
+    let base : f.base ≡ c.args.begun.base = b.unread.base in
+    let start : ℕ = c.args.begun.base + 2 * WORD_BYTES in
+    let count : c.from-others.result - 2 ≡ f.len - 2 = omega arith in
+    let is : start ≡ word_address f 2 = omega arith in
+    let inside : word_index start + (f.len - 2) ≤ length seen = omega arith in
+    c.read_run-words.ensures.run.2 ∙ ap (λ n. slice_range seen (word_index start) (word_index start + n)) count ∙ run_words seen f 2 (f.len - 2) start is (omega arith) inside
 
--- the words that are read here
-abbrev words_are : After-mark_rest-rest → List ℕ
-words_are c = c.args.begun.first ∷ c.args.begun.second ∷ words_from (behind c).seen c.requires.begun.object 2 (c.requires.begun.object.len - 2)
-
--- they are all words of the object
-row : (c : After-mark_rest-rest) → (m : List ℕ) × IsWoven c.args.reader.now.moments m × (words_are c ≡ words_from m c.requires.begun.object 0 c.requires.begun.object.len)
+-- all words of the object
+row : (c : After-mark_all-rest) → (m : List ℕ) × IsWoven c.args.reader.now.moments m × (c.args.begun.first ∷ c.args.begun.second ∷ c.read_run-words.result ≡ words_from m c.requires.begun.object 0 c.requires.begun.object.len)
 row c =
     let b = c.requires.begun in
-    let size : length (behind c).seen ≡ PAGE_WORDS * length c.args.map.now = (behind c).woven.size c.args.reader.now.words c.laws-2.ensures.one ∙ c.requires.memory in
+    let seen = c.read_run-words.ensures.run.0 in
+    let size : length seen ≡ PAGE_WORDS * length c.args.map.now = c.read_run-words.ensures.run.1.size c.args.reader.now.words c.laws-2.ensures.one ∙ c.requires.memory in
     let at : c.args.begun.base ≡ b.object.base = sym b.unread.base in
     let two : 2 ≤ b.object.len = (let l = b.len in let t = b.two in omega arith) in
-    begun_words (length c.args.map.now) c.args.reader.now.moments b.object b.placed c.args.begun.first c.args.begun.second (behind c).seen
+    let m = begun_words (length c.args.map.now) c.args.reader.now.moments b.object b.placed c.args.begun.first c.args.begun.second seen
     (subst (λ (a : ℕ). IsSeen c.args.reader.now.moments a c.args.begun.first) at b.first)
     (subst (λ (a : ℕ). IsSeen c.args.reader.now.moments (a + WORD_BYTES) c.args.begun.second) at b.second)
-    (behind c).woven size two
+    c.read_run-words.ensures.run.1 size two in
+    (m.0, m.1, ap (λ l. c.args.begun.first ∷ c.args.begun.second ∷ l) (rest c) ∙ m.2)
 
-marks : (c : After-mark_rest-rest) → MarksWords (found_in c.args.map.now) c.args.self.now (words_are c) c.mark_rest-rest.new.self
+abbrev words_are : After-mark_all-rest → List ℕ
+words_are c = c.args.begun.first ∷ c.args.begun.second ∷ c.read_run-words.result
+
+marks : (c : After-mark_all-rest) → MarksWords (found_in c.args.map.now) c.args.self.now (words_are c) c.mark_all-rest.new.self
 marks c =
     words_append (found_in c.args.map.now) c.args.self.now (c.args.begun.first ∷ c.args.begun.second ∷ []) c.mark_word-second.new.self
-    (and_word {ws = c.args.begun.first ∷ []} {w = c.args.begun.second} (and_word {ws = []} {w = c.args.begun.first} begun c.mark_word-first.ensures.marks) c.mark_word-second.ensures.marks) (behind c).marks
+    (and_word {ws = c.args.begun.first ∷ []} {w = c.args.begun.second} (and_word {ws = []} {w = c.args.begun.first} begun c.mark_word-first.ensures.marks) c.mark_word-second.ensures.marks) c.mark_all-rest.ensures.marks
 
-stray : (c : After-mark_rest-rest) → TellsStray (found_in c.args.map.now) (PAGE_BYTES * length c.args.map.now) (words_are c) (c.mark_word-first.result || c.mark_word-second.result || c.mark_rest-rest.result)
+stray : (c : After-mark_all-rest) → TellsStray (found_in c.args.map.now) (PAGE_BYTES * length c.args.map.now) (words_are c) (c.mark_word-first.result || c.mark_word-second.result || c.mark_all-rest.result)
 stray c =
-    tells_append (found_in c.args.map.now) (PAGE_BYTES * length c.args.map.now) (c.args.begun.first ∷ c.args.begun.second ∷ []) (words_from (behind c).seen c.requires.begun.object 2 (c.requires.begun.object.len - 2)) (c.mark_word-first.result || c.mark_word-second.result) c.mark_rest-rest.result
-    (tells_append (found_in c.args.map.now) (PAGE_BYTES * length c.args.map.now) (c.args.begun.first ∷ []) (c.args.begun.second ∷ []) c.mark_word-first.result c.mark_word-second.result c.mark_word-first.ensures.stray c.mark_word-second.ensures.stray) (behind c).tells
+    tells_append (found_in c.args.map.now) (PAGE_BYTES * length c.args.map.now) (c.args.begun.first ∷ c.args.begun.second ∷ []) c.read_run-words.result (c.mark_word-first.result || c.mark_word-second.result) c.mark_all-rest.result
+    (tells_append (found_in c.args.map.now) (PAGE_BYTES * length c.args.map.now) (c.args.begun.first ∷ []) (c.args.begun.second ∷ []) c.mark_word-first.result c.mark_word-second.result c.mark_word-first.ensures.stray c.mark_word-second.ensures.stray) c.mark_all-rest.ensures.stray
 
 -- the object lies in the heap, and its page is one of it
-on_page : (c : After-mark_rest-rest) → page_of c.args.begun.base < length c.mark_rest-rest.new.self.carried
+on_page : (c : After-mark_all-rest) → page_of c.args.begun.base < length c.mark_all-rest.new.self.carried
 on_page c =
     let b = c.requires.begun in
     let low = b.placed.below in let above = b.placed.above in let some = b.placed.some in
@@ -54,15 +70,15 @@ on_page c =
     omega arith
 
 pub carry-requires : goal.carry-requires
-carry-requires c = let p = c.page_of.ensures in let on = on_page (goal.at.carry-requires c).After-mark_rest-rest in omega arith
+carry-requires c = let p = c.page_of.ensures in let on = on_page (goal.at.carry-requires c).After-mark_all-rest in omega arith
 
 -- the object is that of its base
-is_object : (c : After-mark_rest-rest) → (f : Found) → found_in c.args.map.now c.args.begun.base ≡ Some f → c.requires.begun.object ≡ f
+is_object : (c : After-mark_all-rest) → (f : Found) → found_in c.args.map.now c.args.begun.base ≡ Some f → c.requires.begun.object ≡ f
 is_object c f is = same_Some c.requires.begun.object f (sym c.requires.begun.unread.object ∙ ap (found_in c.args.map.now) c.requires.begun.unread.base ∙ is)
 
 pub returns-then-first-second-clause-row : goal.returns-then-first-second-clause-row
 returns-then-first-second-clause-row c f is base =
-    let a = (goal.at.returns-then-first-second-clause-row c).After-mark_rest-rest in
+    let a = (goal.at.returns-then-first-second-clause-row c).After-mark_all-rest in
     let b = c.requires.begun in
     let r = row a in
     let p = c.page_of.ensures in
@@ -73,19 +89,19 @@ returns-then-first-second-clause-row c f is base =
     (record {
       seen = r.0;
       woven = r.1;
-      marks = run_marked (found_in c.args.map.now) c.args.self.now c.mark_rest-rest.new.self _ _ r.2 (marks a);
-      carries = run_carried (found_in c.args.map.now) (PAGE_BYTES * length c.args.map.now) c.args.self.now c.mark_rest-rest.new.self _ _ _ _ _ r.2 (marks a) (stray a) c.if-first-second.true (omega arith) (omega arith);
+      marks = run_marked (found_in c.args.map.now) c.args.self.now c.mark_all-rest.new.self _ _ r.2 (marks a);
+      carries = run_carried (found_in c.args.map.now) (PAGE_BYTES * length c.args.map.now) c.args.self.now c.mark_all-rest.new.self _ _ _ _ _ r.2 (marks a) (stray a) c.if-first-second.true (omega arith) (omega arith);
     }))
 
 pub returns-else-first-second-clause-row : goal.returns-else-first-second-clause-row
 returns-else-first-second-clause-row c f is base =
-    let a = (goal.at.returns-else-first-second-clause-row c).After-mark_rest-rest in
+    let a = (goal.at.returns-else-first-second-clause-row c).After-mark_all-rest in
     let b = c.requires.begun in
     let r = row a in
-    subst (λ (g : Found). MarksRow (found_in c.args.map.now) c.args.reader.now.moments g 0 g.len (PAGE_BYTES * length c.args.map.now) (page_of (word_address g 0)) c.args.self.now c.mark_rest-rest.new.self) (is_object a f is)
+    subst (λ (g : Found). MarksRow (found_in c.args.map.now) c.args.reader.now.moments g 0 g.len (PAGE_BYTES * length c.args.map.now) (page_of (word_address g 0)) c.args.self.now c.mark_all-rest.new.self) (is_object a f is)
     (record {
       seen = r.0;
       woven = r.1;
-      marks = run_marked (found_in c.args.map.now) c.args.self.now c.mark_rest-rest.new.self _ _ r.2 (marks a);
-      carries = run_left (found_in c.args.map.now) (PAGE_BYTES * length c.args.map.now) c.args.self.now c.mark_rest-rest.new.self _ _ _ _ r.2 (marks a) (stray a) c.if-first-second.false;
+      marks = run_marked (found_in c.args.map.now) c.args.self.now c.mark_all-rest.new.self _ _ r.2 (marks a);
+      carries = run_left (found_in c.args.map.now) (PAGE_BYTES * length c.args.map.now) c.args.self.now c.mark_all-rest.new.self _ _ _ _ r.2 (marks a) (stray a) c.if-first-second.false;
     })
