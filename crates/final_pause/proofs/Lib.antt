@@ -6,5 +6,6 @@ pub mod Growing
 pub mod Serving
 pub mod Gathering
 pub mod Marked
+pub mod OwnMarks
 pub mod Numbering
 pub mod Ranks

@@ -21,7 +21,7 @@ use Rattle.marker.proofs.Rereading.{cut_begins, cut_kind, found_cut}
 use Rattle.marker.proofs.Rescanning.{reads_own}
 use Rattle.final_pause.specs.Pauses.{PauseView}
 use Rattle.final_pause.specs.Helping.{found, IsReadyPause, IsWordRead}
-use Rattle.final_pause.specs.Serving.{AreObjectsRead, IsPageRead}
+use Rattle.final_pause.specs.Serving.{IsTurnAt, AreObjectsRead, IsPageRead}
 use Rattle.final_pause.proofs.Growing.{word_more}
 
 -- the bits of the word j of a row
@@ -36,23 +36,15 @@ bits_of_word row words j is fits k e =
 pub marks_len : (p : PauseView) → IsReadyPause p → length p.marker.marks ≡ PAGE_GRANULES * length p.map
 marks_len p ready = ap length (sym ready.start) ∙ ready.granules
 
--- the bits of a word of the marks from before
-pub bits_of_marks : (p : PauseView) → IsReadyPause p → (row : List Bool) (words : List ℕ) (page j : ℕ) → row ≡ p.marker.marks → bits words (length row) ≡ row → page < length p.map
-    → 64 * (j + 1) ≤ PAGE_GRANULES * (page + 1) → (k : ℕ) → k / 64 ≡ j → get_or p.marker.marks k false ≡ (bit_at (get_or words j 0) (k % 64) == 1)
-bits_of_marks p ready row words page j same is inside on k e =
-    let size = marks_len p ready in
-    let len : length row ≡ length p.marker.marks = ap length same in
-    ap (λ m. get_or m k false) (sym same) ∙ bits_of_word row words j is (omega arith) k e
-
 -- what a granule of a page that is cut finds is told by the page's block
 pub granule_finds : (p : PauseView) (page g : ℕ) (b : Cells) → state_at p.map page ≡ cut b → PAGE_GRANULES * page ≤ g → g < PAGE_GRANULES * (page + 1)
     → found p (FIRST_ADDRESS + GRANULE_BYTES * g) ≡ found_in_block page b (FIRST_ADDRESS + GRANULE_BYTES * g)
 granule_finds p page g b is from below = found_cut p.map page (FIRST_ADDRESS + GRANULE_BYTES * g) b is (omega arith) (omega arith)
 
 module _ (p : PauseView) (map : IsMap (length p.map) (found p)) where
-  -- none of these granules was marked
-  pub objects_none : (v : ClaimerView) (c : List Bool) (place number low past : ℕ) → ((k : ℕ) → low ≤ k → k < past → Has p.marker.marks k → ⊥) → AreObjectsRead p v c place number low past
-  objects_none v c place number low past none f o n m turn from below i lt = absurd (none (granule f.base) from below m)
+  -- none of these granules was marked and has the turn
+  pub objects_none : (v : ClaimerView) (c : List Bool) (place number low past : ℕ) → ((k : ℕ) → low ≤ k → k < past → Has p.marker.marks k → IsTurnAt p place number k → ⊥) → AreObjectsRead p v c place number low past
+  objects_none v c place number low past none f o n m turn from below i lt = absurd (none (granule f.base) from below m turn)
 
   -- no object begins at this granule
   pub objects_other : (v : ClaimerView) (c : List Bool) (place number g : ℕ) → ((f : Found) → found p (FIRST_ADDRESS + GRANULE_BYTES * g) ≡ Some f → f.base ≡ FIRST_ADDRESS + GRANULE_BYTES * g → ⊥) → AreObjectsRead p v c place number g (g + 1)
@@ -60,11 +52,6 @@ module _ (p : PauseView) (map : IsMap (length p.map) (found p)) where
       let placed = map.placed f.base f o in let above = placed.above in let aligned = placed.aligned in
       let base : f.base ≡ FIRST_ADDRESS + GRANULE_BYTES * g = omega arith in
       absurd (none f (sym (ap (found p) base) ∙ o) base)
-
-  -- the object that begins at this granule is another's to read
-  pub objects_skip : (v : ClaimerView) (c : List Bool) (place number g : ℕ) → ((number + g / 16) % p.helpers ≡ place → ⊥) → AreObjectsRead p v c place number g (g + 1)
-  objects_skip v c place number g other f o n m turn from below i lt =
-      let at : granule f.base ≡ g = omega (arith, from, below) in absurd (other (subst (λ (k : ℕ). (number + k / 16) % p.helpers ≡ place) at turn))
 
   -- the words of the object that begins at this granule were read
   pub objects_one : (v : ClaimerView) (c : List Bool) (place number g : ℕ) (f : Found) → found p f.base ≡ Some f → granule f.base ≡ g → ((i : ℕ) → i < f.len → IsWordRead p v c f i) → AreObjectsRead p v c place number g (g + 1)
@@ -80,9 +67,9 @@ module _ (p : PauseView) (map : IsMap (length p.map) (found p)) where
   pub objects_more : (v w : ClaimerView) (c d : List Bool) → ((k : ℕ) → knows v k ≡ true → knows w k ≡ true) → ((q : ℕ) → Has c q → Has d q) → (place number low past : ℕ) → AreObjectsRead p v c place number low past → AreObjectsRead p w d place number low past
   objects_more v w c d more carried place number low past h f o n m turn from below i lt = word_more p v w c d more carried f i (h f o n m turn from below i lt)
 
-  -- granules that had no mark are passed, and then the object at a marked one was read
+  -- granules that had no mark or not the turn are passed, and then the object at another was read
   pub objects_next : (v w : ClaimerView) (c d : List Bool) → ((k : ℕ) → knows v k ≡ true → knows w k ≡ true) → ((q : ℕ) → Has c q → Has d q) → (place number low mid at past : ℕ) → past ≡ at + 1
-      → ((k : ℕ) → mid ≤ k → k < at → Has p.marker.marks k → ⊥) → AreObjectsRead p v c place number low mid → AreObjectsRead p w d place number at (at + 1) → AreObjectsRead p w d place number low past
+      → ((k : ℕ) → mid ≤ k → k < at → Has p.marker.marks k → IsTurnAt p place number k → ⊥) → AreObjectsRead p v c place number low mid → AreObjectsRead p w d place number at (at + 1) → AreObjectsRead p w d place number low past
   objects_next v w c d more carried place number low mid at past end none x y =
       let before = objects_append w d place number low mid at (objects_more v w c d more carried place number low mid x) (objects_none w d place number mid at none) in
       subst (AreObjectsRead p w d place number low) (sym end) (objects_append w d place number low at (at + 1) before y)

@@ -1,5 +1,6 @@
 -- A helper at work and at its end.
-use Rattle.std.specs.Prelude.{◌≡◌, ℕ, ◌+◌, ◌-◌, ◌/◌, ◌%◌, ◌<◌, ◌≤◌, Bool, List, [], length, slice_index_or, slice_index, Contains, Some, ◌⊎◌}
+use Rattle.std.specs.Prelude.{◌≡◌, ℕ, ◌+◌, ◌-◌, ◌*◌, ◌/◌, ◌%◌, ◌<◌, ◌≤◌, ◌↔◌, Bool, List, [], length, slice_index_or, slice_index, Contains, Some, ◌⊎◌}
+use Rattle.std.specs.Int.{bit_at}
 use Rattle.words.specs.declared.class.Kind.TheVariants.{Normal}
 use Rattle.words.specs.Bits.{Has, IsClear}
 use Rattle.words.specs.Layout.{granule, page_of, page_start}
@@ -68,9 +69,17 @@ AreRootsRead p v place n = (i : ℕ) → i < n → i % p.helpers ≡ place → I
 abbrev pub AreEntriesRead : PauseView → ClaimerView → List Bool → ℕ → ℕ → Type 0
 AreEntriesRead p v carried place n = (i : ℕ) (d : Entry) → i < n → IsEntryRead p v carried place i (slice_index_or (entries p.marker) i d)
 
--- The turn of an object on the dirty page of a number is the place's. What begins within 256 bytes has one turn.
+-- The turn of what begins at a granule, on the dirty page of a number, is the place's. What begins within 256 bytes has one turn.
+abbrev pub IsTurnAt : PauseView → ℕ → ℕ → ℕ → Type 0
+IsTurnAt p place number g = (number + g / 16) % p.helpers ≡ place
+
+-- the turn of an object on the dirty page of a number is the place's
 abbrev pub IsTurn : PauseView → ℕ → ℕ → Found → Type 0
-IsTurn p place number f = (number + granule f.base / 16) % p.helpers ≡ place
+IsTurn p place number f = IsTurnAt p place number (granule f.base)
+
+-- the ones of a word are those of the 64 granules from 64 j on that were marked before and of which the turn is the place's
+pub record AreOwnMarks (p : PauseView) (place number j word : ℕ) : Type 0 where
+  pub own : (k : ℕ) → k < 64 → (bit_at word k ≡ 1) ↔ (Has p.marker.marks (64 * j + k) × IsTurnAt p place number (64 * j + k))
 
 -- the words between two addresses were read, if they are words of Normal objects that were marked before, whose turn is the place's
 abbrev pub AreWordsRead : PauseView → ClaimerView → List Bool → ℕ → ℕ → ℕ → ℕ → Type 0

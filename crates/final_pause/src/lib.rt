@@ -18,6 +18,7 @@ mod page;
 mod parallel;
 mod round;
 mod share;
+mod turns;
 mod waiting;
 
 pub use alone::close_marks;

@@ -10,7 +10,7 @@
 //!
 //! On a page that is cut, their bits tell where these objects begin and the page's block what they are, with no look-up and
 //! no look at any other object. On another page stands one object at most.
-ghost use Rattle.std.specs.Prelude.{◌≡◌, ◌+◌, ◌*◌, ◌/◌, ◌%◌, ◌<◌, ◌≤◌, ◌↔◌, true, length};
+ghost use Rattle.std.specs.Prelude.{◌≡◌, ℕ, ◌+◌, ◌*◌, ◌%◌, ◌<◌, ◌≤◌, length};
 ghost use Rattle.words.specs.Bits.{Has};
 ghost use Rattle.words.specs.declared.class.Kind.TheVariants.{Normal};
 ghost use Rattle.words.specs.declared.limits.TheConstants.{MOST_PAGES, PAGE_GRANULES, WORD_BYTES};
@@ -31,24 +31,10 @@ use marker::part_between;
 use words::limits::{FIRST_ADDRESS, GRANULE_BYTES, PAGE_BYTES, PAGE_GRANULES};
 use words::{Kind, PageNo, granule_of, page_start};
 
-// The granules in a row of which the objects that begin there have one turn.
-const TURN: usize = 16;
-
 // The words of 64 mark bits that a page has.
 const MARK_WORDS: usize = (PAGE_GRANULES / 64) as usize;
 
 impl<'a> Pause<'a> {
-    // Whether the object that begins at a granule is the helper's to read, on the dirty page of a number.
-    #[inline]
-    fn is_turn(&self, helper: &Helper, number: usize, granule: usize) -> bool
-        requires some { 0 < self.now.helpers }
-        requires few { number ≤ MOST_PAGES }
-        requires inside { granule ≤ PAGE_GRANULES * MOST_PAGES }
-        ensures { (result ≡ true) ↔ ((number + granule / 16) % self.now.helpers ≡ helper.now.place) }
-    {
-        (number + granule / TURN) % self.helpers == helper.place
-    }
-
     // Reads the words of the next object on a page that stand between two addresses, if it was a marked Normal one before
     // the helpers started and it is the helper's turn. Answers the first address past them.
     fn read_part<G: Gate>(
@@ -101,7 +87,7 @@ impl<'a> Pause<'a> {
     }
 
     // Reads the words of the object of a block that begins at a granule that was marked before the helpers started, if one
-    // does and it is the helper's turn.
+    // does.
     #[inline]
     fn read_at<G: Gate>(
         &self,
@@ -110,7 +96,6 @@ impl<'a> Pause<'a> {
         page: PageNo,
         block: &Block,
         granule: usize,
-        number: usize,
     )
         requires serving { IsServing (pause_view self.now) helper.old }
         requires inside { page < length self.now.map.now }
@@ -118,13 +103,9 @@ impl<'a> Pause<'a> {
         requires normal { block.now.kind ≡ Normal }
         requires on { (PAGE_GRANULES * page ≤ granule) × (granule < PAGE_GRANULES * (page + 1)) }
         requires marked { Has self.now.marker.now.marks granule }
-        requires few { number ≤ MOST_PAGES }
         ensures serves { GoesOnServing (pause_view self.now) helper.old helper.new }
-        ensures read { AreObjectsRead (pause_view self.now) (view helper.new.claimer) helper.new.carried helper.old.place number granule (granule + 1) }
+        ensures read { (number : ℕ) → AreObjectsRead (pause_view self.now) (view helper.new.claimer) helper.new.carried helper.old.place number granule (granule + 1) }
     {
-        if !self.is_turn(helper, number, granule) {
-            return;
-        }
         let base = FIRST_ADDRESS + GRANULE_BYTES * granule as u64;
         let Some(found) = object_from(page, block, base) else {
             return;
@@ -133,8 +114,8 @@ impl<'a> Pause<'a> {
         self.read_run(gate, helper, found, 0, u64::from(found.len));
     }
 
-    // Reads the words of the objects of a block that begin at the 64 granules from 64 j on and were marked before the helpers
-    // started.
+    // Reads the words of the objects of a block that begin at the 64 granules from 64 j on, were marked before the helpers
+    // started and are the helper's to read.
     fn read_marked<G: Gate>(
         &self,
         gate: &G,
@@ -153,11 +134,11 @@ impl<'a> Pause<'a> {
         ensures serves { GoesOnServing (pause_view self.now) helper.old helper.new }
         ensures read { AreObjectsRead (pause_view self.now) (view helper.new.claimer) helper.new.carried helper.old.place number (64 * j) (64 * (j + 1)) }
     {
-        let marks = self.marker.mark_row().as_words()[j];
-        let mut rest = marks;
+        let own = self.own_marks(helper, j, number);
+        let mut rest = own;
         while rest != 0 {
             let granule = 64 * j + rest.trailing_zeros() as usize;
-            self.read_at(gate, helper, page, block, granule, number);
+            self.read_at(gate, helper, page, block, granule);
             rest &= rest - 1;
         }
     }

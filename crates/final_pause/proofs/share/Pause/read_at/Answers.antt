@@ -17,10 +17,10 @@ pub object_from-requires : goal.object_from-requires
 object_from-requires g c = let few = c.requires.serving.fits.ready.few in let inside = c.requires.inside in omega arith
 
 pub returns-in_default-clause-read : goal.returns-in_default-clause-read
-returns-in_default-clause-read g c =
+returns-in_default-clause-read g c = λ number.
     let p = pause_view c.args.self.now in let h = c.args.helper.now in
     let here = granule_finds p c.args.page c.args.granule c.args.block.now c.requires.cut c.requires.on.0 c.requires.on.1 in
-    objects_other p c.requires.serving.fits.ready.map (view h.claimer) h.carried c.args.helper.now.place c.args.number c.args.granule (λ f e b. c.in_default.ensures.object f (sym here ∙ e) b)
+    objects_other p c.requires.serving.fits.ready.map (view h.claimer) h.carried c.args.helper.now.place number c.args.granule (λ f e b. c.in_default.ensures.object f (sym here ∙ e) b)
 
 pub read_run-requires-clause-object : goal.read_run-requires-clause-object
 read_run-requires-clause-object g c κs within =
@@ -48,11 +48,11 @@ returns-clause-serves g c =
     c.read_run.ensures c.requires.serving
 
 pub returns-clause-read : goal.returns-clause-read
-returns-clause-read g c =
+returns-clause-read g c = λ number.
     let p = pause_view c.args.self.now in let map = c.requires.serving.fits.ready.map in
     let object = c.in-Some.ensures.object in
     let here = granule_finds p c.args.page c.args.granule c.args.block.now c.requires.cut c.requires.on.0 c.requires.on.1 in
     let base : c.in-Some.found.base ≡ FIRST_ADDRESS + GRANULE_BYTES * c.args.granule = object.1 in
     let h = c.read_run.new.helper in let len = c.from.ensures in
-    objects_one p map (view h.claimer) h.carried c.args.helper.now.place c.args.number c.args.granule c.in-Some.found (at_base (length p.map) (found p) map _ c.in-Some.found (here ∙ object.0)) (omega arith)
+    objects_one p map (view h.claimer) h.carried c.args.helper.now.place number c.args.granule c.in-Some.found (at_base (length p.map) (found p) map _ c.in-Some.found (here ∙ object.0)) (omega arith)
     (λ i lt. c.read_run.ensures.read i (omega arith) (omega arith))
