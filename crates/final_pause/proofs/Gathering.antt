@@ -1,5 +1,5 @@
 -- What helpers know, won and made dirty is put together.
-use Rattle.std.proofs.Common.{◌≡◌, ℕ, ◌+◌, ◌-◌, ◌*◌, ◌/◌, ◌%◌, ◌<◌, ◌≤◌, List, Bool, true, Contains, Option, Some, None, length, get_or, refl, sym, ap, subst, ◌∙◌, inl, inr, ⊎_elim, mod-lt, arith}
+use Rattle.std.proofs.Common.{◌≡◌, ℕ, ◌+◌, ◌*◌, ◌/◌, ◌%◌, ◌<◌, ◌≤◌, List, Bool, true, Contains, Option, Some, None, length, get_or, refl, sym, ap, subst, ◌∙◌, inl, inr, ⊎_elim, mod-lt, arith}
 use Rattle.std.specs.Prelude.{◌⊎◌}
 use Rattle.std.proofs.lemmas.Bool.{cases_eq, cases_lt, true≢false}
 use Rattle.std.proofs.lemmas.List.{get_or_default}
@@ -28,7 +28,7 @@ use Rattle.marker.proofs.Closures.{same_object}
 use Rattle.each_law.specs.Jobs.{HaveRun}
 use Rattle.final_pause.specs.declared.helper.Helper.{Helper}
 use Rattle.final_pause.specs.Pauses.{PauseView}
-use Rattle.final_pause.specs.Helping.{found, word_in, IsTargetKnown, IsWordRead}
+use Rattle.final_pause.specs.Helping.{found, word_in, turn_of, IsTargetKnown, IsWordRead}
 use Rattle.final_pause.specs.Dealing.{rank}
 use Rattle.final_pause.specs.Serving.{IsReachable, IsEntryRead, IsShareRead, HasServed}
 use Rattle.final_pause.specs.Gathering.{AreNumbered, HasGathered}
@@ -36,6 +36,7 @@ use Rattle.final_pause.specs.Rounds.{DirtiesNew}
 use Rattle.final_pause.proofs.Knowing.{none_in}
 use Rattle.final_pause.proofs.Growing.{word_more}
 use Rattle.final_pause.proofs.Serving.{share_more}
+use Rattle.final_pause.proofs.OwnWords.{turn_below}
 
 -- each helper was run, and each had its place
 pub served_at : {p : PauseView} {old new : List Helper} → HaveRun (λ a b. HasServed p a.place b) old new → AreNumbered old → (i : ℕ) (d : Helper) → i < length new → HasServed p i (get_or new i d)
@@ -109,9 +110,9 @@ module _ {p : PauseView} (first : Claimer) (dirty carried : List Bool) (new : Ma
   read_pending : (f : Found) → found p f.base ≡ Some f → f.kind ≡ Normal → IsMarked old f.base → (i : ℕ) → i < f.len → IsLeftToEntry old f.base i → IsWordRead p (view first) carried f i
   read_pending f o n m i lt q =
       let at = entry_in old q.entry q.one in
-      let turn : ℕ = at.0 + (page_of (word_address f i) - page_of f.base) in
-      let place = g.shares (turn % p.helpers) (omega arith) (mod-lt turn some) in
-      let read : IsEntryRead p (view first) carried (turn % p.helpers) at.0 q.entry = subst (IsEntryRead p (view first) carried (turn % p.helpers) at.0) at.2 (place.entries at.0 q.entry at.1) in
+      let turn : ℕ = turn_of p at.0 f i in
+      let place = g.shares turn (omega arith) (turn_below p some at.0 f i) in
+      let read : IsEntryRead p (view first) carried turn at.0 q.entry = subst (IsEntryRead p (view first) carried turn at.0) at.2 (place.entries at.0 q.entry at.1) in
       read f o (sym q.same) n m i q.left lt refl
 
   read_dirty : (f : Found) → found p f.base ≡ Some f → f.kind ≡ Normal → IsMarked old f.base → (i : ℕ) → i < f.len → Has old.dirty (page_of (word_address f i)) → IsWordRead p (view first) carried f i

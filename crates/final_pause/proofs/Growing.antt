@@ -1,43 +1,24 @@
 -- How what a helper knows, won and awaits grows.
-use Rattle.std.proofs.Common.{◌≡◌, ℕ, ◌+◌, ◌*◌, ◌<◌, ◌≤◌, Bool, List, [], ◌∷◌, ◌++◌, true, false, Contains, Option, Some, None, length, refl, sym, ap, subst, ◌∙◌, inl, inr, ⊎_elim, arith}
+use Rattle.std.proofs.Common.{◌≡◌, ℕ, ◌*◌, ◌<◌, Bool, List, [], ◌∷◌, ◌++◌, true, false, Contains, Option, Some, length, refl, sym, ap, subst, ◌∙◌, inl, inr, ⊎_elim, arith}
 use Rattle.std.proofs.lemmas.Option.{same_Some}
-use Rattle.std.proofs.lemmas.Bool.{cases_lt}
 use Rattle.std.proofs.lemmas.List.Elements.{Contains-append_cases, Contains-append_left, Contains-append_right}
 use Rattle.words.specs.declared.class.Kind.TheVariants.{Normal}
-use Rattle.words.specs.declared.limits.TheConstants.{PAGE_GRANULES, PAGE_WORDS}
-use Rattle.std.specs.Prelude.{slice_range}
-use Rattle.pages.specs.Memory.{word_index}
+use Rattle.words.specs.declared.limits.TheConstants.{PAGE_GRANULES}
 use Rattle.words.specs.Bits.{Has}
-use Rattle.words.specs.Layout.{granule, page_of}
+use Rattle.words.specs.Layout.{granule}
 use Rattle.mark_bits.specs.declared.claimer_view.ClaimerView.{ClaimerView}
 use Rattle.mark_bits.specs.Tables.{view, start_of, IsOf}
 use Rattle.mark_bits.specs.Claims.{knows, LearnsMore}
 use Rattle.block_map.specs.declared.found.Found.{Found}
-use Rattle.block_map.specs.Objects.{IsMap, IsPlaced}
-use Rattle.marker.specs.Marking.{IsOutside, bytes_of, word_address}
-use Rattle.marker.specs.Growth.{CarriesPage, IsNoStray, IsStray, TellsStray, words_from}
+use Rattle.block_map.specs.Objects.{IsMap}
+use Rattle.marker.specs.Marking.{IsOutside, bytes_of}
+use Rattle.marker.specs.Growth.{TellsStray}
 use Rattle.marker.proofs.Closures.{at_base, same_object}
 use Rattle.marker.proofs.MarkWord.{markable, tells_none}
-use Rattle.marker.proofs.Words.{contains_word, run_words, word_of}
 use Rattle.final_pause.specs.declared.helper.Helper.{Helper}
 use Rattle.final_pause.specs.Pauses.{PauseView}
-use Rattle.final_pause.specs.Helping.{found, word_in, won_of, QueuesObject, HelperGrows, IsReadyPause, IsTargetKnown, IsWordRead, unknown, IsAwaitedBy, IsPageOfWon, IsPointedInto, ClaimsOnly, Visits, VisitsAll, IsWordOf, ReadsWords}
+use Rattle.final_pause.specs.Helping.{found, won_of, QueuesObject, HelperGrows, IsReadyPause, IsTargetKnown, IsWordRead, IsAwaitedBy, IsPageOfWon, IsPointedInto, ClaimsOnly, Visits, VisitsAll}
 use Rattle.final_pause.proofs.Knowing.{unknown_le, unknown_lt, contains_one, contains_cons, contains_more, contains_here}
-
--- a word that is stray neither points into an object nor lies outside of the heap
-not_stray : (found : ℕ → Option Found) (bytes w : ℕ) → IsStray found bytes w → IsNoStray found bytes w → ⊥
-not_stray found bytes w s other = ⊎_elim
-    (λ (o : (g : Found) × (found w ≡ Some g)). let z : None ≡ Some o.0 = sym s.nothing ∙ o.1 in cc z)
-    (λ out. let from = s.from in let below = s.below in ⊎_elim (λ low. omega (arith, from, low)) (λ high. omega (arith, below, high)) out)
-    other
-
--- the words of an object that a reader lends
-pub lent_words : (memory words run : List ℕ) (pages : ℕ) (f : Found) (first n start : ℕ) → IsPlaced pages f → first + n ≤ f.len → length memory ≡ PAGE_WORDS * pages → start ≡ word_address f first
-    → run ≡ slice_range words (word_index start) (word_index start + n) → words ≡ memory → run ≡ words_from memory f first n
-lent_words memory words run pages f first n start placed fits size is lent same =
-    let below = placed.below in let above = placed.above in let aligned = placed.aligned in
-    let inside : word_index start + n ≤ length memory = omega arith in
-    lent ∙ ap (λ (ws : List ℕ). slice_range ws (word_index start) (word_index start + n)) same ∙ run_words memory f first n start is (omega arith) inside
 
 -- a word that points into an object is not stray
 pub tells_object : (found : ℕ → Option Found) (bytes w : ℕ) (g : Found) → found w ≡ Some g → TellsStray found bytes (w ∷ []) false
@@ -215,89 +196,24 @@ module _ (p : PauseView) where
     only = record { won = λ k c. inl c; entries = λ e c. inl c };
   }
 
-  pub visits_next : (ws : List ℕ) (w : ℕ) (a b c : Helper) → VisitsAll p ws a b → Visits p w b c → VisitsAll p (ws ++ w ∷ []) a c
-  visits_next ws w a b c r v = record {
-    extends = extends_trans a b c r.extends v.extends;
-    carried = v.carried ∙ r.carried;
-    targets = λ u h. ⊎_elim
-        (λ m. target_more (view b.claimer) (view c.claimer) v.extends.learns.known u (r.targets u m))
-        (λ (m : Contains (w ∷ []) u). subst (λ (n : ℕ). IsTargetKnown p (view c.claimer) n) (contains_one w u m) v.target)
-        (Contains-append_cases ws (w ∷ []) u h);
-    only = only_trans (λ u. Contains (ws ++ w ∷ []) u) a b c
-        (only_more (λ u. Contains ws u) (λ u. Contains (ws ++ w ∷ []) u) a b (λ u m. Contains-append_left ws (w ∷ []) u m) r.only)
-        (only_more (λ u. u ≡ w) (λ u. Contains (ws ++ w ∷ []) u) b c
-        (λ u e. subst (λ (n : ℕ). Contains (ws ++ w ∷ []) n) (sym e) (Contains-append_right ws (w ∷ []) w (contains_here w []))) v.only);
-  }
-
-  -- a page has become carried, and nothing else has changed
-  extends_carried : (b c : Helper) → IsOf p.table b.claimer → c.claimer ≡ b.claimer → c.waiting ≡ b.waiting → c.dirty ≡ b.dirty → c.place ≡ b.place → length c.carried ≡ length b.carried → ((q : ℕ) → Has b.carried q → Has c.carried q)
-      → HelperGrows p b c
-  extends_carried b c of cl st di sh size more = record {
-    of = subst (IsOf p.table) (sym cl) of;
-    place = sh;
-    learns = record { right = ap (λ h. (view h).right) cl; known = λ k e. ap (λ h. knows (view h) k) cl ∙ e };
-    won = λ k h. subst (λ d. Contains (view d).won k) (sym cl) h;
-    dirty_len = ap length di;
-    dirty = λ q h. subst (λ d. Has d q) (sym di) h;
-    dirtied = λ q h. inl (subst (λ d. Has d q) di h);
-    carried_len = size;
-    carried = more;
-    waiting = λ k h. subst (λ s. Contains s k) (sym st) h;
-    fresh = λ f e h. inl (subst (λ d. Contains (view d).won (granule f.base)) cl h);
-    own = λ o k h. subst (λ d. Contains (view d).won (granule k)) (sym cl) (o k (subst (λ s. Contains s k) st h));
-    left =
-        let u : unknown (length (start_of p.table)) (view c.claimer) ≡ unknown (length (start_of p.table)) (view b.claimer) = ap (λ h. unknown (length (start_of p.table)) (view h)) cl in
-        let s : length c.waiting ≡ length b.waiting = ap (λ s. length s) st in
-        omega (arith, u, s);
-  }
-
-  only_carried : (P : ℕ → Type 0) (a b c : Helper) → c.claimer ≡ b.claimer → c.waiting ≡ b.waiting → ClaimsOnly p P a b → ClaimsOnly p P a c
-  only_carried P a b c cl st x = record {
-    won = λ k h. x.won k (subst (λ d. Contains (view d).won k) cl h);
-    entries = λ e h. x.entries e (subst (λ s. Contains s e) st h);
-  }
-
-  -- words of an object that lie in a row on one page, which was carried then or not
-  pub reads_run : (f : Found) (first n page : ℕ) (a b c : Helper) → first + n ≤ f.len → ((i : ℕ) → first ≤ i → i < first + n → page_of (word_address f i) ≡ page) → VisitsAll p (words_from p.memory f first n) a b
-      → c.claimer ≡ b.claimer → c.waiting ≡ b.waiting → c.dirty ≡ b.dirty → c.place ≡ b.place → CarriesPage (found p) (bytes_of p.marker) (words_from p.memory f first n) page b.carried c.carried → ReadsWords p f first n a c
-  reads_run f first n page a b c fits one_page v cl st di sh carries = record {
-    extends = extends_trans a b c v.extends (extends_carried b c v.extends.of cl st di sh carries.len carries.stays);
-    read = λ i le lt.
-        let among = contains_word p.memory f first n i le lt in
-        record {
-          known = subst (λ h. IsTargetKnown p (view h) (word_in p f i)) (sym cl) (v.targets (word_in p f i) among);
-          settled = λ s. ⊎_elim
-              (λ h. subst (Has c.carried) (sym (one_page i le lt)) h)
-              (λ other. absurd (not_stray (found p) (bytes_of p.marker) (word_in p f i) s other))
-              (carries.all (word_in p f i) among);
-        };
-    strays = λ q h. ⊎_elim
-        (λ o. inl (subst (λ r. Has r q) v.carried o))
-        (λ (s : (q ≡ page) × ((w : ℕ) × Contains (words_from p.memory f first n) w × IsStray (found p) (bytes_of p.marker) w)).
-        let y = word_of p.memory f first n s.1.0 s.1.1 in let l = y.2 in
-        inr (record { index = y.0; inside = omega (arith, l, fits); on = one_page y.0 y.1 y.2 ∙ sym s.0; stray = subst (IsStray (found p) (bytes_of p.marker)) y.3 s.1.2 }))
-        (carries.only q h);
-    only = only_carried (IsWordOf p f) a b c cl st (only_more (λ w. Contains (words_from p.memory f first n) w) (IsWordOf p f) a b
-        (λ w h. let y = word_of p.memory f first n w h in let l = y.2 in (y.0, omega arith, y.3)) v.only);
-  }
-
-  -- no word was read
-  pub reads_none : (f : Found) (first : ℕ) (a : Helper) → IsOf p.table a.claimer → ReadsWords p f first 0 a a
-  reads_none f first a of = record {
-    extends = extends_refl a of;
-    read = λ i le lt. absurd (omega (arith, le, lt));
-    strays = λ q h. inl h;
-    only = record { won = λ k c. inl c; entries = λ e c. inl c };
-  }
-
-  -- words and then the next ones were read
-  pub reads_append : (f : Found) (first k next n : ℕ) (a b c : Helper) → next ≡ first + k → ReadsWords p f first k a b → ReadsWords p f next n b c → ReadsWords p f first (k + n) a c
-  reads_append f first k next n a b c is x y = record {
+  -- words, and then others
+  pub visits_append : (ws vs : List ℕ) (a b c : Helper) → VisitsAll p ws a b → VisitsAll p vs b c → VisitsAll p (ws ++ vs) a c
+  visits_append ws vs a b c x y = record {
     extends = extends_trans a b c x.extends y.extends;
-    read = λ i le lt. ⊎_elim
-        (λ (before : i < first + k). word_more (view b.claimer) (view c.claimer) b.carried c.carried y.extends.learns.known y.extends.carried f i (x.read i le before))
-        (λ after. y.read i (omega (arith, after, is)) (omega (arith, lt, is)))
-        (cases_lt i (first + k));
-    strays = λ q h. ⊎_elim (λ o. x.strays q o) (λ s. inr s) (y.strays q h);
-    only = only_trans (IsWordOf p f) a b c x.only y.only;
+    carried = y.carried ∙ x.carried;
+    targets = λ u h. ⊎_elim (λ m. target_more (view b.claimer) (view c.claimer) y.extends.learns.known u (x.targets u m)) (λ m. y.targets u m) (Contains-append_cases ws vs u h);
+    only = only_trans (λ u. Contains (ws ++ vs) u) a b c
+        (only_more (λ u. Contains ws u) (λ u. Contains (ws ++ vs) u) a b (λ u m. Contains-append_left ws vs u m) x.only)
+        (only_more (λ u. Contains vs u) (λ u. Contains (ws ++ vs) u) b c (λ u m. Contains-append_right ws vs u m) y.only);
   }
+
+  pub visits_one : (w : ℕ) (a b : Helper) → Visits p w a b → VisitsAll p (w ∷ []) a b
+  visits_one w a b v = record {
+    extends = v.extends;
+    carried = v.carried;
+    targets = λ u h. subst (IsTargetKnown p (view b.claimer)) (contains_one w u h) v.target;
+    only = only_more (λ u. u ≡ w) (λ u. Contains (w ∷ []) u) a b (λ u e. subst (Contains (w ∷ [])) (sym e) (contains_here w [])) v.only;
+  }
+
+  pub visits_next : (ws : List ℕ) (w : ℕ) (a b c : Helper) → VisitsAll p ws a b → Visits p w b c → VisitsAll p (ws ++ w ∷ []) a c
+  visits_next ws w a b c r v = visits_append ws (w ∷ []) a b c r (visits_one w b c v)

@@ -3,6 +3,8 @@ pub mod Closing
 pub mod Knowing
 pub mod Waits
 pub mod Growing
+pub mod Reading
+pub mod OwnWords
 pub mod Serving
 pub mod Gathering
 pub mod Marked

@@ -24,7 +24,7 @@ use Rattle.final_pause.specs.declared.helper.Helper.{Helper}
 use Rattle.final_pause.specs.Pauses.{PauseView}
 use Rattle.final_pause.specs.Dealing.{rank}
 use Rattle.final_pause.specs.Waiting.{IsTaken}
-use Rattle.final_pause.specs.Helping.{found, won_of, IsReadyPause, IsHelperOf, HelperGrows, IsWordRead, IsAwaitedBy, QueuesObject, AreWon, HasStrayOn, IsPointedInto, ClaimsOnly, IsWordOf, Visits, ReadsWords}
+use Rattle.final_pause.specs.Helping.{found, won_of, IsReadyPause, IsHelperOf, HelperGrows, IsWordRead, IsAwaitedBy, QueuesObject, AreWon, HasStrayOn, IsPointedInto, ClaimsOnly, IsWordOf, Visits, ReadsWords, ReadsOwn}
 use Rattle.final_pause.specs.Serving.{IsReachable, IsReachedAt, IsQueuedAt, IsServing, GoesOnServing, IsRunRead, IsEntryRead, AreRootsRead, AreEntriesRead, IsTurn, AreWordsRead, ArePagesRead, IsShareRead, IsHired}
 use Rattle.final_pause.proofs.Knowing.{none_in}
 use Rattle.final_pause.proofs.Growing.{target_more, word_more, awaited_more, page_more}
@@ -125,15 +125,22 @@ module _ (p : PauseView) where
     carried = v.extends.carried;
   }
 
-  -- words of a reached Normal object were read
-  pub serves_words : IsMap (length p.map) (found p) → (f : Found) (first n : ℕ) (a b : Helper) → IsReachable p f → f.kind ≡ Normal → ReadsWords p f first n a b → IsServing p a → GoesOnServing p a b
-  serves_words map f first n a b reached normal r s = record {
-    serving = serves_more map (IsWordOf p f) (reached_word f reached normal) a b r.only r.extends
-        (λ q h. ⊎_elim (λ o. inl o) (λ w. inr (stray_on f (is_object (length p.map) (found p) p.memory p.roots (IsMarked p.marker) map reached) normal reached q w)) (r.strays q h)) s;
-    place = r.extends.place;
-    learns = r.extends.learns;
-    carried = r.extends.carried;
+  -- some words of a reached Normal object were read
+  serves_reads : IsMap (length p.map) (found p) → (f : Found) (a b : Helper) → IsReachable p f → f.kind ≡ Normal → HelperGrows p a b → ((q : ℕ) → Has b.carried q → Has a.carried q ⊎ HasStrayOn p f q) → ClaimsOnly p (IsWordOf p f) a b
+      → IsServing p a → GoesOnServing p a b
+  serves_reads map f a b reached normal extends strays only s = record {
+    serving = serves_more map (IsWordOf p f) (reached_word f reached normal) a b only extends
+        (λ q h. ⊎_elim (λ o. inl o) (λ w. inr (stray_on f (is_object (length p.map) (found p) p.memory p.roots (IsMarked p.marker) map reached) normal reached q w)) (strays q h)) s;
+    place = extends.place;
+    learns = extends.learns;
+    carried = extends.carried;
   }
+
+  pub serves_words : IsMap (length p.map) (found p) → (f : Found) (first n : ℕ) (a b : Helper) → IsReachable p f → f.kind ≡ Normal → ReadsWords p f first n a b → IsServing p a → GoesOnServing p a b
+  serves_words map f first n a b reached normal r s = serves_reads map f a b reached normal r.extends r.strays r.only s
+
+  pub serves_own : IsMap (length p.map) (found p) → (f : Found) (first n : ℕ) (a b : Helper) → IsReachable p f → f.kind ≡ Normal → ReadsOwn p f first n a b → IsServing p a → GoesOnServing p a b
+  serves_own map f first n a b reached normal r s = serves_reads map f a b reached normal r.extends r.strays r.only s
 
   -- one that waited is taken out
   module _ (map : IsMap (length p.map) (found p)) (a m : Helper) (base : ℕ) (f : Found)

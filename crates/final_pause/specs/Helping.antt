@@ -1,7 +1,8 @@
 -- What a helper of a pause does with a word.
-use Rattle.std.specs.Prelude.{◌≡◌, ℕ, zero, suc, ◌+◌, ◌*◌, ◌<◌, ◌≤◌, Bool, true, List, length, Contains, Option, Some, ◌⊎◌, if◌then◌else◌}
+use Rattle.std.specs.Prelude.{◌≡◌, ℕ, zero, suc, ◌+◌, ◌-◌, ◌*◌, ◌/◌, ◌%◌, ◌<◌, ◌≤◌, ◌==◌, nat_lt, Bool, true, List, length, Contains, Option, Some, ◌⊎◌, if◌then◌else◌}
+use Rattle.std.specs.List.{filter}
 use Rattle.words.specs.declared.class.Kind.TheVariants.{Normal}
-use Rattle.words.specs.declared.limits.TheConstants.{MOST_PAGES, PAGE_GRANULES, PAGE_WORDS}
+use Rattle.words.specs.declared.limits.TheConstants.{MOST_PAGES, PAGE_BYTES, PAGE_GRANULES, PAGE_WORDS}
 use Rattle.words.specs.Bits.{Has}
 use Rattle.words.specs.Layout.{page_of, granule}
 use Rattle.mark_bits.specs.declared.claimer_view.ClaimerView.{ClaimerView}
@@ -23,6 +24,22 @@ found p = found_in p.map
 -- the word i of an object
 abbrev pub word_in : PauseView → Found → ℕ → ℕ
 word_in p f i = word_at p.memory (word_address f i)
+
+-- the turn of a word by where it points: 8 KB of the heap, whose marks are 64 bytes, have one turn
+abbrev pub span_turn : PauseView → ℕ → ℕ
+span_turn p w = (w / (2 * PAGE_BYTES)) % p.helpers
+
+-- the turn of the word i of an object by where it stands: by a number and its page, counted from the object's first
+abbrev pub page_turn : PauseView → ℕ → Found → ℕ → ℕ
+page_turn p number f i = (number + (page_of (word_address f i) - page_of f.base)) % p.helpers
+
+-- the turn of the word i of the object of the entry of a number: by where it points, if the object is longer than a page
+abbrev pub turn_of : PauseView → ℕ → Found → ℕ → ℕ
+turn_of p number f i = if nat_lt PAGE_WORDS f.len then span_turn p (word_in p f i) else page_turn p number f i
+
+-- those of the words that have the place's turn by where they point
+abbrev pub own_words : PauseView → ℕ → List ℕ → List ℕ
+own_words p place ws = filter (λ w. span_turn p w == place) ws
 
 -- a word points into the object
 pub record IsObjectOf (p : PauseView) (f : Found) : Type 0 where
@@ -161,5 +178,12 @@ IsWordOf p f w = (i : ℕ) × (i < f.len) × (w ≡ word_in p f i)
 pub record ReadsWords (p : PauseView) (f : Found) (first n : ℕ) (old new : Helper) : Type 0 where
   pub extends : HelperGrows p old new
   pub read : (i : ℕ) → first ≤ i → i < first + n → IsWordRead p (view new.claimer) new.carried f i
+  pub strays : (q : ℕ) → Has new.carried q → Has old.carried q ⊎ HasStrayOn p f q
+  pub only : ClaimsOnly p (IsWordOf p f) old new
+
+-- the same, where of these words those were read that have the helper's turn by where they point
+pub record ReadsOwn (p : PauseView) (f : Found) (first n : ℕ) (old new : Helper) : Type 0 where
+  pub extends : HelperGrows p old new
+  pub read : (i : ℕ) → first ≤ i → i < first + n → span_turn p (word_in p f i) ≡ old.place → IsWordRead p (view new.claimer) new.carried f i
   pub strays : (q : ℕ) → Has new.carried q → Has old.carried q ⊎ HasStrayOn p f q
   pub only : ClaimsOnly p (IsWordOf p f) old new

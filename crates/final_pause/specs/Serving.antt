@@ -1,9 +1,9 @@
 -- A helper at work and at its end.
-use Rattle.std.specs.Prelude.{◌≡◌, ℕ, ◌+◌, ◌-◌, ◌*◌, ◌/◌, ◌%◌, ◌<◌, ◌≤◌, ◌↔◌, Bool, List, [], length, slice_index_or, slice_index, Contains, Some, ◌⊎◌}
+use Rattle.std.specs.Prelude.{◌≡◌, ℕ, ◌+◌, ◌*◌, ◌/◌, ◌%◌, ◌<◌, ◌≤◌, ◌↔◌, Bool, List, [], length, slice_index_or, slice_index, Contains, Some, ◌⊎◌}
 use Rattle.std.specs.Int.{bit_at}
 use Rattle.words.specs.declared.class.Kind.TheVariants.{Normal}
 use Rattle.words.specs.Bits.{Has, IsClear}
-use Rattle.words.specs.Layout.{granule, page_of, page_start}
+use Rattle.words.specs.Layout.{granule, page_start}
 use Rattle.mark_bits.specs.declared.claimer_view.ClaimerView.{ClaimerView}
 use Rattle.mark_bits.specs.Tables.{view, IsOf}
 use Rattle.mark_bits.specs.Claims.{HasPart, LearnsMore}
@@ -16,7 +16,7 @@ use Rattle.marker.specs.Growth.{IsStrayPage}
 use Rattle.final_pause.specs.declared.helper.Helper.{Helper}
 use Rattle.final_pause.specs.Pauses.{PauseView}
 use Rattle.final_pause.specs.Dealing.{rank}
-use Rattle.final_pause.specs.Helping.{IsHelperOf, IsTargetKnown, IsWordRead, IsAwaitedBy, IsPageOfWon, AreWon, found, won_of}
+use Rattle.final_pause.specs.Helping.{IsHelperOf, IsTargetKnown, IsWordRead, IsAwaitedBy, IsPageOfWon, AreWon, found, won_of, turn_of}
 
 -- what the marks before and the roots reach
 abbrev pub IsReachable : PauseView → Found → Type 0
@@ -51,10 +51,13 @@ pub record IsServing (p : PauseView) (h : Helper) : Type 0 where
   pub within : (k : ℕ) → Contains (won_of h) k → IsReachedAt p k
   pub own : AreWon h
 
--- Of these words of an object, which is that of the entry of a number, the place's were read: those on the pages of which the page's
--- number, counted from the object's first page on, and the entry's are together the place, modulo the number of helpers.
+-- those of these words of an object were read of which the turn is the place's
+abbrev pub AreTurnsRead : PauseView → ClaimerView → List Bool → ℕ → (ℕ → ℕ) → Found → ℕ → ℕ → Type 0
+AreTurnsRead p v carried place turn f first past = (i : ℕ) → first ≤ i → i < past → turn i ≡ place → IsWordRead p v carried f i
+
+-- the same where the object is that of the entry of a number
 abbrev pub IsRunRead : PauseView → ClaimerView → List Bool → ℕ → ℕ → Found → ℕ → ℕ → Type 0
-IsRunRead p v carried place number f first past = (i : ℕ) → first ≤ i → i < past → (number + (page_of (word_address f i) - page_of f.base)) % p.helpers ≡ place → IsWordRead p v carried f i
+IsRunRead p v carried place number f first past = AreTurnsRead p v carried place (turn_of p number f) f first past
 
 -- the place's part of the words that an entry had left was read, if it was one of a marked Normal object
 abbrev pub IsEntryRead : PauseView → ClaimerView → List Bool → ℕ → ℕ → Entry → Type 0

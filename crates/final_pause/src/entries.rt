@@ -1,25 +1,28 @@
 //! The entries that were left over, which the helpers read together.
 //!
 //! They are numbered from the lowest one on, and the one that is being read comes last. Of the entry of a number a helper reads the words
-//! on those pages of which the page's number in the object and the entry's are together its place, modulo the number of helpers. So an object on
-//! one page is read by one of them, and a long one by all.
-ghost use Rattle.std.specs.Prelude.{◌≡◌, ℕ, ◌+◌, ◌<◌, ◌≤◌, Some, MatchOption, length};
+//! on those pages of which the page's number in the object and the entry's are together its place, modulo the number of helpers.
+//!
+//! Of an object that is longer than a page each helper reads all words, and visits those that point into its own spans of the heap
+//! (`spans.rt`).
+ghost use Rattle.std.specs.Prelude.{◌≡◌, ℕ, ◌+◌, ◌<◌, ◌≤◌, nat_lt, Some, MatchOption, length};
 ghost use Rattle.words.specs.Layout.{page_of};
 ghost use Rattle.words.specs.declared.class.Kind.TheVariants.{Normal};
-ghost use Rattle.words.specs.declared.limits.TheConstants.{MARK_STACK_ENTRIES};
+ghost use Rattle.words.specs.declared.limits.TheConstants.{MARK_STACK_ENTRIES, PAGE_WORDS};
 ghost use Rattle.mark_bits.specs.Tables.{view};
 ghost use Rattle.block_map.specs.FoundIn.{found_in};
 ghost use Rattle.marker.specs.Marking.{IsMarked, entries, word_address};
 ghost use Rattle.final_pause.specs.Dealing.{IsAt};
 ghost use Rattle.final_pause.specs.Pauses.{pause_view};
-ghost use Rattle.final_pause.specs.Serving.{IsServing, GoesOnServing, IsRunRead, IsEntryRead, AreEntriesRead};
+ghost use Rattle.final_pause.specs.Helping.{page_turn, span_turn, word_in};
+ghost use Rattle.final_pause.specs.Serving.{IsServing, GoesOnServing, AreTurnsRead, IsRunRead, IsEntryRead, AreEntriesRead};
 
 use crate::gate::Gate;
 use crate::helper::Helper;
 use crate::share::Pause;
 use block_map::Found;
 use marker::{Entry, Marker};
-use words::limits::{MARK_STACK_ENTRIES, PAGE_BYTES, WORD_BYTES};
+use words::limits::{MARK_STACK_ENTRIES, PAGE_BYTES, PAGE_WORDS, WORD_BYTES};
 use words::page_of;
 
 // So many words of an entry are read before it is seen to that what they lead to has room: half as many as a stack has.
@@ -39,9 +42,70 @@ fn entry_at(marker: &Marker, number: usize) -> Option<Entry>
     marker.current()
 }
 
+// Whether an object is longer than a page.
+#[inline]
+fn is_long(found: Found) -> bool
+    ensures { result ≡ nat_lt PAGE_WORDS found.len }
+{
+    u64::from(found.len) > PAGE_WORDS
+}
+
 impl<'a> Pause<'a> {
-    // Reads so many words of an object, from its word `first` on, which stand on one page, if it is the helper's turn.
+    // Reads so many words of an object, from its word `first` on, which stand on one page, if the page's turn is the helper's.
     fn read_turn<G: Gate>(
+        &self,
+        gate: &G,
+        helper: &mut Helper,
+        found: Found,
+        first: u32,
+        count: u64,
+        number: usize,
+    )
+        requires serving { IsServing (pause_view self.now) helper.old }
+        requires object { found_in self.now.map.now found.base ≡ Some found }
+        requires normal { found.kind ≡ Normal }
+        requires marked { IsMarked self.now.marker.now found.base }
+        requires inside { first + count ≤ found.len }
+        requires some { 0 < count }
+        requires one_page { (i : ℕ) → first ≤ i → i < first + count → page_of (word_address found i) ≡ page_of (word_address found first) }
+        requires few { number ≤ MARK_STACK_ENTRIES }
+        ensures serves { GoesOnServing (pause_view self.now) helper.old helper.new }
+        ensures read { AreTurnsRead (pause_view self.now) (view helper.new.claimer) helper.new.carried helper.old.place (page_turn (pause_view self.now) number found) found first (first + count) }
+    {
+        let address = found.base + WORD_BYTES * u64::from(first);
+        let page = (page_of(address) - page_of(found.base)) as usize;
+        if (number + page) % self.helpers != helper.place {
+            return;
+        }
+        self.read_run(gate, helper, found, first, count);
+        self.make_room(gate, helper);
+    }
+
+    // Reads those of so many words of an object, from its word `first` on, which stand on one page, that point into the
+    // helper's spans.
+    fn read_spans<G: Gate>(
+        &self,
+        gate: &G,
+        helper: &mut Helper,
+        found: Found,
+        first: u32,
+        count: u64,
+    )
+        requires serving { IsServing (pause_view self.now) helper.old }
+        requires object { found_in self.now.map.now found.base ≡ Some found }
+        requires normal { found.kind ≡ Normal }
+        requires marked { IsMarked self.now.marker.now found.base }
+        requires inside { first + count ≤ found.len }
+        requires one_page { (i : ℕ) → first ≤ i → i < first + count → page_of (word_address found i) ≡ page_of (word_address found first) }
+        ensures serves { GoesOnServing (pause_view self.now) helper.old helper.new }
+        ensures read { AreTurnsRead (pause_view self.now) (view helper.new.claimer) helper.new.carried helper.old.place (λ i. span_turn (pause_view self.now) (word_in (pause_view self.now) found i)) found first (first + count) }
+    {
+        self.read_own(gate, helper, found, first, count);
+        self.make_room(gate, helper);
+    }
+
+    // Reads the helper's part of so many words of the object of the entry of a number, which stand on one page.
+    fn read_piece<G: Gate>(
         &self,
         gate: &G,
         helper: &mut Helper,
@@ -61,13 +125,11 @@ impl<'a> Pause<'a> {
         ensures serves { GoesOnServing (pause_view self.now) helper.old helper.new }
         ensures read { IsRunRead (pause_view self.now) (view helper.new.claimer) helper.new.carried helper.old.place number found first (first + count) }
     {
-        let address = found.base + WORD_BYTES * u64::from(first);
-        let page = (page_of(address) - page_of(found.base)) as usize;
-        if (number + page) % self.helpers != helper.place {
-            return;
+        if is_long(found) {
+            self.read_spans(gate, helper, found, first, count);
+        } else {
+            self.read_turn(gate, helper, found, first, count, number);
         }
-        self.read_run(gate, helper, found, first, count);
-        self.make_room(gate, helper);
     }
 
     // Reads the helper's part of the words that the entry of a number has left.
@@ -85,7 +147,7 @@ impl<'a> Pause<'a> {
             let address = found.base + WORD_BYTES * u64::from(next);
             let on_page = (PAGE_BYTES - address % PAGE_BYTES) / WORD_BYTES;
             let count = on_page.min(u64::from(found.len - next)).min(PIECE);
-            self.read_turn(gate, helper, found, next, count, number);
+            self.read_piece(gate, helper, found, next, count, number);
             next += count as u32;
         }
     }

@@ -18,6 +18,7 @@ mod page;
 mod parallel;
 mod round;
 mod share;
+mod spans;
 mod turns;
 mod waiting;
 

@@ -1,4 +1,4 @@
-//! What one helper reads: its root words, the entries that were dealt to it, and what these lead to.
+//! What one helper reads: its root words, its parts of the entries and of the dirty pages, and what these lead to.
 ghost use Rattle.std.specs.Prelude.{◌≡◌, ℕ, ◌+◌, ◌<◌, ◌≤◌, [], ◌∷◌, true, false, Some, length};
 ghost use Rattle.mark_bits.specs.Tables.{view, granules_of};
 ghost use Rattle.words.specs.Layout.{granule, page_of};
@@ -45,9 +45,9 @@ impl<'a> Pause<'a> {
         granule_of(found.base)
     }
 
-    // Whether a word lies in the heap's range.
+    /// Whether a word lies in the heap's range.
     #[inline]
-    fn is_inside(&self, word: u64) -> bool
+    pub(crate) fn is_inside(&self, word: u64) -> bool
         requires ready { IsReadyPause (pause_view self.now) }
         ensures inside { result ≡ true → (FIRST_ADDRESS ≤ word) × (word < FIRST_ADDRESS + bytes_of self.now.marker.now) }
         ensures outside { result ≡ false → IsOutside (bytes_of self.now.marker.now) word }
@@ -71,9 +71,9 @@ impl<'a> Pause<'a> {
         }
     }
 
-    // The same of a word in the heap's range.
+    /// The same of a word in the heap's range.
     #[inline(never)]
-    fn visit_target<G: Gate>(&self, gate: &G, helper: &mut Helper, word: u64) -> bool
+    pub(crate) fn visit_target<G: Gate>(&self, gate: &G, helper: &mut Helper, word: u64) -> bool
         requires helper { IsHelperOf (pause_view self.now) helper.old }
         requires inside { (FIRST_ADDRESS ≤ word) × (word < FIRST_ADDRESS + bytes_of self.now.marker.now) }
         ensures visits { Visits (pause_view self.now) word helper.old helper.new }
@@ -198,7 +198,8 @@ impl<'a> Pause<'a> {
         }
     }
 
-    /// A helper's whole work: the root words of its place before anything else, what was dealt to it, and all that these lead to.
+    /// A helper's whole work: the root words of its place before anything else, its parts of the entries and of the dirty pages, and
+    /// all that these lead to.
     pub(crate) fn help<G: Gate>(&self, gate: &G, helper: &mut Helper)
         requires { IsServing (pause_view self.now) helper.old }
         ensures { HasServed (pause_view self.now) helper.old.place helper.new }

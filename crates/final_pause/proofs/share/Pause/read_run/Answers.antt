@@ -6,7 +6,7 @@ use Rattle.marker.proofs.Beside.{only_run}
 use Rattle.marker.proofs.Words.{run_page, carries_some, carries_none}
 use Rattle.final_pause.specs.Pauses.{pause_view}
 use Rattle.final_pause.specs.Helping.{found, VisitsAll}
-use Rattle.final_pause.proofs.Growing.{lent_words, reads_run}
+use Rattle.final_pause.proofs.Reading.{lent_words, reads_run}
 use Rattle.final_pause.proofs.share.Pause.read_run.Goals as goal
 
 pub overflow_add-start : goal.overflow_add-start

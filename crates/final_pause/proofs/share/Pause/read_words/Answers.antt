@@ -1,6 +1,6 @@
 use Rattle.std.proofs.Common.{◌+◌, arith}
 use Rattle.final_pause.specs.Pauses.{pause_view}
-use Rattle.final_pause.proofs.Growing.{reads_none, reads_append}
+use Rattle.final_pause.proofs.Reading.{reads_none, reads_append}
 use Rattle.final_pause.proofs.Serving.{fits_more}
 use Rattle.final_pause.proofs.share.Pause.read_words.Goals as goal
 

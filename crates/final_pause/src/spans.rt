@@ -1,0 +1,91 @@
+//! The words of a long object, which the helpers read by where they point.
+//!
+//! A claim is slow where another processor has just changed marks in the same line of memory. What a long object points at lies
+//! anywhere, so helpers that read a part of its words each would take the lines from one another all the time. So the heap is cut into
+//! spans whose marks fill a line, and each span is one helper's: of all the object's words it visits those that point into its own.
+ghost use Rattle.std.specs.Prelude.{◌≡◌, ℕ, ◌+◌, ◌<◌, ◌≤◌, ◌⊎◌, [], ◌∷◌, true, false};
+ghost use Rattle.words.specs.Layout.{page_of};
+ghost use Rattle.words.specs.declared.limits.TheConstants.{FIRST_ADDRESS};
+ghost use Rattle.block_map.specs.FoundIn.{found_in};
+ghost use Rattle.marker.specs.Marking.{IsOutside, bytes_of, word_address};
+ghost use Rattle.marker.specs.Growth.{TellsStray};
+ghost use Rattle.final_pause.specs.Helping.{IsReadyPause, IsObjectOf, IsHelperOf, VisitsAll, ReadsOwn, own_words, span_turn};
+ghost use Rattle.final_pause.specs.Pauses.{pause_view};
+
+use crate::gate::Gate;
+use crate::helper::{Helper, carry};
+use crate::share::Pause;
+use block_map::Found;
+use pages::{Reader, Words};
+use words::limits::{PAGE_BYTES, WORD_BYTES};
+use words::{PageNo, page_of};
+
+// The bytes of a span: its marks are 64 bytes, a line of memory.
+const SPAN_BYTES: u64 = 2 * PAGE_BYTES;
+
+impl<'a> Pause<'a> {
+    // Whether a word points into one of the helper's spans.
+    #[inline]
+    fn is_own(&self, helper: &Helper, word: u64) -> bool
+        requires ready { IsReadyPause (pause_view self.now) }
+        ensures inside { result ≡ true → (FIRST_ADDRESS ≤ word) × (word < FIRST_ADDRESS + bytes_of self.now.marker.now) }
+        ensures own { result ≡ true → span_turn (pause_view self.now) word ≡ helper.now.place }
+        ensures other { result ≡ false → IsOutside (bytes_of self.now.marker.now) word ⊎ (span_turn (pause_view self.now) word ≡ helper.now.place → ⊥) }
+    {
+        if !self.is_inside(word) {
+            return false;
+        }
+        (word / SPAN_BYTES) as usize % self.helpers == helper.place
+    }
+
+    // Marks the object that a word points into, if the word is the helper's. Answers whether it is the helper's and stray.
+    #[inline]
+    fn visit_own<G: Gate>(&self, gate: &G, helper: &mut Helper, word: u64) -> bool
+        requires { IsHelperOf (pause_view self.now) helper.old }
+        ensures visits { VisitsAll (pause_view self.now) (own_words (pause_view self.now) helper.old.place (word ∷ [])) helper.old helper.new }
+        ensures stray { TellsStray (found_in self.now.map.now) (bytes_of self.now.marker.now) (own_words (pause_view self.now) helper.old.place (word ∷ [])) result }
+    {
+        if self.is_own(helper, word) {
+            self.visit_target(gate, helper, word)
+        } else {
+            false
+        }
+    }
+
+    // Marks what those of the words point into that are the helper's, and answers whether one of these is stray.
+    #[inline]
+    fn visit_all_own<G: Gate>(&self, gate: &G, helper: &mut Helper, words: Words) -> bool
+        requires { IsHelperOf (pause_view self.now) helper.old }
+        ensures visits { VisitsAll (pause_view self.now) (own_words (pause_view self.now) helper.old.place words.entry) helper.old helper.new }
+        ensures stray { TellsStray (found_in self.now.map.now) (bytes_of self.now.marker.now) (own_words (pause_view self.now) helper.old.place words.entry) result }
+    {
+        let mut stray = false;
+        for word in words {
+            stray |= self.visit_own(gate, helper, word);
+        }
+        stray
+    }
+
+    /// Marks what those words of an object point into that are the helper's: of so many, from its word `first` on, which stand
+    /// on one page. The page is carried if one of them is stray.
+    pub(crate) fn read_own<G: Gate>(
+        &self,
+        gate: &G,
+        helper: &mut Helper,
+        found: Found,
+        first: u32,
+        count: u64,
+    )
+        requires fits { IsHelperOf (pause_view self.now) helper.old }
+        requires object { IsObjectOf (pause_view self.now) found }
+        requires inside { first + count ≤ found.len }
+        requires one_page { (i : ℕ) → first ≤ i → i < first + count → page_of (word_address found i) ≡ page_of (word_address found first) }
+        ensures { ReadsOwn (pause_view self.now) found first count helper.old helper.new }
+    {
+        let start = found.base + WORD_BYTES * u64::from(first);
+        let mut reader = Reader::new(self.memory);
+        if self.visit_all_own(gate, helper, reader.read_run(start, count)) {
+            carry(helper, page_of(start) as PageNo);
+        }
+    }
+}
