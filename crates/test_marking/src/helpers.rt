@@ -146,9 +146,14 @@ fn closes_after(
     closes(rt, scene, &[top.base, last.base], number)
 }
 
-// More objects than the mark stack has entries, by each number of helpers, from the start and in the middle of a cycle.
-fn agrees(rt: &(impl Abort + Threads + Wait + Sync), scene: &mut Scene) -> Result<(), Fail> {
-    widen(rt, scene)?;
+// More objects than the mark stack has entries, behind one of so many pages, by each number of helpers, from the start and in the middle of a
+// cycle.
+fn agrees(
+    rt: &(impl Abort + Threads + Wait + Sync),
+    scene: &mut Scene,
+    pages: u32,
+) -> Result<(), Fail> {
+    widen(rt, scene, pages)?;
     for number in 1..MAX_HELPERS + 1 {
         for steps in [0, 7, 290, 512, 600] {
             closes_after(rt, scene, number, steps)?;
@@ -160,5 +165,11 @@ fn agrees(rt: &(impl Abort + Threads + Wait + Sync), scene: &mut Scene) -> Resul
 #[test]
 fn helpers_leave_the_marks_of_a_pause_alone(rt: HostRuntime) -> Result<(), Fail> {
     let mut scene = Scene::open(rt.alloc(), 5)?;
-    agrees(&rt, &mut scene)
+    agrees(&rt, &mut scene, 1)
+}
+
+#[test]
+fn helpers_read_a_long_object_by_where_its_words_point(rt: HostRuntime) -> Result<(), Fail> {
+    let mut scene = Scene::open(rt.alloc(), 6)?;
+    agrees(&rt, &mut scene, 2)
 }
