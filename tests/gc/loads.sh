@@ -6,7 +6,8 @@
 # first address to a register W where W was loaded last stands behind the load of a word of the heap. That has to be a plain mov into all of W,
 # of an operand that the function uses for such loads alone (a second look at the word would use it, too); where it does so again, as in another
 # copy of a loop, one of the operand's registers is written between, in the order of the text: so a second such load that the compiler had put
-# far behind its loop would be missed. And no function of the marker may load a vector, but from its stack. What
+# far behind its loop would be missed. A load whose address is computed from the negated first address, or that of the word behind it, is one of
+# the heap too: the first two words of an object, which are looked at later. And no function of the marker may load a vector, but from its stack. What
 # lies on the stack, or far behind a pointer, is a field of the marker's own. It ends with how many places there are, of which it has to find
 # some. (0xffffab0000000000 is that address negated.)
 set -euo pipefail
@@ -24,7 +25,7 @@ awk -v least=$least '
     /^[0-9a-f]+ <.*>:$/ { ends(); name = $2; is_of_marker = name ~ /marker::/ }
     function ends(at) {
         for (at in loaded) if (used[at] != loaded[at]) { print name ": " at " is used " used[at] " times, and " loaded[at] " of them are loads"; failed = 1 }
-        split("", loaded); split("", used); split("", from); split("", first); split("", written); split("", line); split("", last)
+        split("", loaded); split("", used); split("", from); split("", first); split("", begins); split("", written); split("", line); split("", last)
     }
     # The line at which a register of the operand was written last.
     function renewed(at,    registers, count, k, newest) {
@@ -39,7 +40,7 @@ awk -v least=$least '
         sub(/ *#.*/, "", text)
         operation = text
         sub(/[ \t].*/, "", operation)
-        place = operation ~ /^lea/ ? "" : memory(text)
+        place = operation ~ /^(lea|nop|cs$|data16)/ ? "" : memory(text)
         if (place != "") used[place]++
         into = text ~ /,%[a-z0-9]+$/ ? substr(text, match(text, /%[a-z0-9]+$/)) : ""
         if (into ~ /%[xyz]mm/ && place != "" && place !~ /%rsp/) wrong("a vector is loaded")
@@ -60,6 +61,17 @@ awk -v least=$least '
             count++
         }
     }
+    # A load from an address that is counted from the first one.
+    place != "" && operation !~ /^lea/ {
+        split(place, part, /[(),]+/)
+        if (part[2] in begins || part[3] in begins) {
+            if (operation != "mov" || into !~ /^%r/ || into ~ /^%r[0-9]+[dwb]$/) wrong("no whole word is loaded")
+            else if (last[place] && renewed(place) <= last[place]) wrong("the word is loaded once more")
+            loaded[place]++
+            last[place] = NR
+            count++
+        }
+    }
     operation ~ /^(inc|dec|neg|not|pop)/ && text ~ /[ \t]%[a-z0-9]+$/ { written[substr(text, match(text, /%[a-z0-9]+$/))] = NR }
     # What each register has: of a load that is where it was loaded from.
     into != "" && operation !~ /^(cmp|test|bt)/ {
@@ -71,8 +83,10 @@ awk -v least=$least '
         sub(/,.*/, "", copied)
         from[into] = copied != "" ? from[copied] : place == "" || is_field || operation !~ /^mov/ ? "" : is_whole ? place : "part"
         delete first[into]
+        delete begins[into]
         line[into] = copied != "" ? line[copied] : NR
         if (text ~ /^movabs[ \t]+\$0xffffab0000000000,/) first[into] = 1
+        if (text ~ /^movabs[ \t]+\$0xffffab000000000[08],/) begins[into] = 1
     }
     END {
         ends()
