@@ -1,9 +1,10 @@
 /* How long full collections stop a program of two threads that keeps a million objects of 40 bytes, by bdwgc's gc.h, of one source for bdwgc
  * and for libmpgc:
  *
- *     stops lists | tree | array
+ *     stops lists | tree | upwards | scattered | array
  *
  * They are 64 lists, of which each takes every 64th object; or a tree, made from the top, whose branches lie one behind the other; or
+ * one made from its leaves, so that each object lies behind its branches; or one whose objects lie in random places; or
  * they hang from an array, in random order. Printed are, of 10 collections, the median and the longest stop, the median and the longest
  * GC_gcollect, all in microseconds on the wall, and how many objects are still there. A stop is from the moment that bdwgc says it
  * stops the world to that at which it says it has started it; libmpgc doesn't say, and its GC_gcollect is one stop but for some
@@ -85,6 +86,18 @@ static uint64_t count_branch(const struct object *top)
 static void make_tree(void) { tree = grow(OBJECTS); }
 static uint64_t count_tree(void) { return count_branch(tree); }
 
+static struct object *grow_upwards(uint64_t count)
+{
+    if (count == 0) return NULL;
+    struct object *left = grow_upwards((count - 1) / 2), *right = grow_upwards(count - 1 - (count - 1) / 2);
+    struct object *top = ask(1);
+    top->left = left;
+    top->right = right;
+    return top;
+}
+
+static void make_upwards(void) { tree = grow_upwards(OBJECTS); }
+
 static void make_array(void)
 {
     array = GC_MALLOC(OBJECTS * sizeof *array);
@@ -96,6 +109,19 @@ static void make_array(void)
         array[k] = array[other];
         array[other] = one;
     }
+}
+
+/* What the array has becomes a tree, level by level, and the array goes. */
+static void make_scattered(void)
+{
+    make_array();
+    for (uint64_t k = 0; 2 * k + 1 < OBJECTS; k++) {
+        array[k]->left = array[2 * k + 1];
+        if (2 * k + 2 < OBJECTS) array[k]->right = array[2 * k + 2];
+    }
+    tree = array[0];
+    memset(array, 0, OBJECTS * sizeof *array);
+    array = NULL;
 }
 
 static uint64_t count_array(void)
@@ -155,7 +181,8 @@ static int has_markers(void)
 int main(int count, char **words)
 {
     static const struct { const char *name; void (*make)(void); uint64_t (*count)(void); } all[] = {
-        { "lists", make_lists, count_lists }, { "tree", make_tree, count_tree }, { "array", make_array, count_array }
+        { "lists", make_lists, count_lists }, { "tree", make_tree, count_tree }, { "upwards", make_upwards, count_tree },
+        { "scattered", make_scattered, count_tree }, { "array", make_array, count_array }
     };
     int ends[2];
     pthread_t second;
