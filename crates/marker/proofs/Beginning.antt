@@ -5,7 +5,7 @@ use Rattle.std.proofs.lemmas.List.{ext_get_or, map-append, reverse-append}
 use Rattle.std.proofs.lemmas.List.Sums.{sum_by-append}
 use Rattle.std.proofs.lemmas.List.FromFn.{length-map-range_with_len, get_or-map-range_with_len}
 use Rattle.words.specs.declared.limits.TheConstants.{PAGE_WORDS, WORD_BYTES}
-use Rattle.pages.specs.Memory.{IsWordAddress, word_index, word_at}
+use Rattle.pages.specs.Memory.{word_index, word_at}
 use Rattle.pages.specs.Reads.{IsWoven}
 use Rattle.block_map.specs.declared.found.Found.{Found}
 use Rattle.block_map.specs.Objects.{IsPlaced}
@@ -24,18 +24,7 @@ woven_set moments s t i a b inside = record {
       (cases_eq k i);
 }
 
--- where a word of an object stands in memory
-pub word_place : (pages : ℕ) (f : Found) (words : List ℕ) (i : ℕ) → IsPlaced pages f → length words ≡ PAGE_WORDS * pages → i < f.len → IsWordAddress words (word_address f i)
-word_place pages f words i p size lt = record {
-  aligned = (let a = p.aligned in omega arith);
-  above = (let a = p.above in omega arith);
-  below = (let b = p.below in omega arith);
-}
-
 module _ (pages : ℕ) (moments : List (List ℕ)) (f : Found) (p : IsPlaced pages f) where
-  place : ℕ → ℕ
-  place i = word_index (word_address f i)
-
   apart : (i j : ℕ) → i < j → (word_index (word_address f j) ≡ word_index (word_address f i)) → ⊥
   apart i j lt e = let a = p.above in let b = p.aligned in omega arith
 

@@ -136,7 +136,7 @@ carries_none found bytes ws page old x = record {
 }
 
 -- what words lead to leaves the carried pages
-pub word_same : (found : ℕ → Option Found) (w : ℕ) (a b : Marking) → MarksWord found w a b → b.carried ≡ a.carried
+word_same : (found : ℕ → Option Found) (w : ℕ) (a b : Marking) → MarksWord found w a b → b.carried ≡ a.carried
 word_same found w a b (nothing t e) = ap (λ (m : Marking). m.carried) e
 word_same found w a b (object f is x) = x.carried
 

@@ -18,6 +18,11 @@ use pages::Reader;
 use words::Kind;
 use words::limits::{PAGE_BYTES, WORD_BYTES};
 
+// So many entries at most are looked up before the first of them is read, and one for each `WORDS_A_LOOK` words that may be read.
+const LOOKS: u64 = 64;
+
+const WORDS_A_LOOK: u64 = 8;
+
 /// What a call of `step` did.
 #[derive(Clone, Copy, Debug)]
 pub struct Marked {
@@ -56,8 +61,9 @@ impl Marker {
             if read == budget {
                 return Marked { read, empty: false };
             }
-            known = known.min(self.depth());
-            read += self.read_off(map, heap_bytes, reader, found, known, budget - read);
+            let left = budget - read;
+            known = self.look_below(map, known.min(self.depth()), left);
+            read += self.read_off(map, heap_bytes, reader, found, known, left);
         }
         Marked { read, empty: true }
     }
@@ -141,6 +147,27 @@ impl Marker {
         } else {
             None
         }
+    }
+
+    // From which number on the entries that wait are known to have a word: from `known` on they are, and of those below some
+    // are looked up, fewer where little may be read.
+    #[inline(never)]
+    fn look_below(&self, map: &BlockMap, known: usize, most: u64) -> usize
+        requires pages { length self.now.dirty ≡ length map.now }
+        requires known { AreUnreadFrom (found_in map.now) self.now known self.now.stack }
+        requires inside { known ≤ length self.now.stack }
+        ensures known { AreUnreadFrom (found_in map.now) self.now result self.now.stack }
+        ensures lower { result ≤ known }
+    {
+        let waiting = self.waiting();
+        let mut lowest = known;
+        for _ in 0..(most / WORDS_A_LOOK).min(LOOKS) {
+            if lowest == 0 || self.unread(map, waiting[lowest - 1]).is_none() {
+                return lowest;
+            }
+            lowest -= 1;
+        }
+        lowest
     }
 
     // Whether the entry that is being read has a word left, and of which object.

@@ -15,7 +15,10 @@ use block_map::{BlockMap, Found};
 use pages::Reader;
 use words::limits::PAGE_WORDS;
 
-// Where more entries wait, objects are read one by one: eight of four words each may fill the rest of the stack.
+// Objects are read together where so many wait that are known to have words, and at most so many in all: eight of four words
+// each may fill the rest of the stack then. Few wait in a tree, which mostly lies in the order in which it is marked, so that
+// the processor itself fetches it ahead.
+const WIDE: usize = 2 * TOGETHER;
 const CROWDED: usize = ENTRIES - 4 * TOGETHER;
 
 // Whether the words of an object are at most so many, and stand on one page.
@@ -160,7 +163,7 @@ impl Marker {
         ensures reads { reader.new.reads ≡ reader.old.reads + result }
     {
         let depth = self.depth();
-        if depth < known + TOGETHER || depth > CROWDED {
+        if depth < known + WIDE || depth > CROWDED {
             self.read_top(map, heap_bytes, reader, known, most)
         } else {
             self.read_together(map, heap_bytes, reader, known, most)

@@ -104,9 +104,13 @@ returns-then-read-budget-clause-cost c = less (goal.at.returns-then-read-budget-
 pub returns-clause-cost : goal.returns-clause-cost
 returns-clause-cost c = less (goal.at.returns-clause-cost c).After-next
 
-pub read_off-read-requires-clause-known : goal.read_off-read-requires-clause-known
-read_off-read-requires-clause-known c =
-    known_waiting (found_in c.args.map.now) c.next.new.self c.loop-found.known c.min-known.result (λ k from lt. (let m = c.min-known.ensures in let d = c.depth.ensures in omega arith))
+pub look_below-known-requires-clause-pages : goal.look_below-known-requires-clause-pages
+look_below-known-requires-clause-pages c =
+    let s = (goal.at.look_below-known-requires-clause-pages c).After-next in (grows s (takes s)).dirty_len ∙ c.requires.pages
+
+pub look_below-known-requires-clause-known : goal.look_below-known-requires-clause-known
+look_below-known-requires-clause-known c =
+    known_waiting (found_in c.args.map.now) c.next.new.self c.loop-found.known c.min.result (λ k from lt. (let m = c.min.ensures in let d = c.depth.ensures in omega arith))
     (known_settles (found_in c.args.map.now) _ _ _ c.next.ensures.settles c.loop-found.invariant.known)
 
 pub loop-found-smaller : goal.loop-found-smaller
