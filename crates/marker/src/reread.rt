@@ -7,7 +7,7 @@ ghost use Rattle.words.specs.Layout.{granule, page_start};
 ghost use Rattle.block_map.specs.States.{cut, state_at};
 ghost use Rattle.block_map.specs.Walks.{IsNextObject};
 ghost use Rattle.block_map.specs.FoundIn.{found_in, IsLawful};
-ghost use Rattle.marker.specs.Marking.{IsMarked};
+ghost use Rattle.marker.specs.Marking.{IsMarked, AreMarksObjects};
 ghost use Rattle.marker.specs.Beside.{IsStill};
 ghost use Rattle.marker.specs.Retracing.{Rereads, RereadsObjects};
 
@@ -47,6 +47,7 @@ impl Marker {
         page: PageNo,
     )
         requires pages { length self.old.dirty ≡ length map.now }
+        requires objects { AreMarksObjects (found_in map.now) self.old }
         requires lawful { IsLawful map.now }
         requires bytes { heap_bytes ≡ PAGE_BYTES * length map.now }
         requires memory { length reader.old.words ≡ PAGE_WORDS * length map.now }
@@ -56,6 +57,7 @@ impl Marker {
         ensures words { reader.new.words ≡ reader.old.words }
         ensures moments { reader.new.moments ≡ reader.old.moments }
         ensures reads { reader.new.reads ≤ reader.old.reads + PAGE_WORDS }
+        ensures objects { AreMarksObjects (found_in map.now) self.new }
     {
         self.laws();
         let mut address = page_start(page);
@@ -76,6 +78,7 @@ impl Marker {
         block: &Block,
     )
         requires pages { length self.old.dirty ≡ length map.now }
+        requires objects { AreMarksObjects (found_in map.now) self.old }
         requires lawful { IsLawful map.now }
         requires bytes { heap_bytes ≡ PAGE_BYTES * length map.now }
         requires memory { length reader.old.words ≡ PAGE_WORDS * length map.now }
@@ -86,6 +89,7 @@ impl Marker {
         ensures words { reader.new.words ≡ reader.old.words }
         ensures moments { reader.new.moments ≡ reader.old.moments }
         ensures reads { reader.new.reads ≤ reader.old.reads + PAGE_WORDS }
+        ensures objects { AreMarksObjects (found_in map.now) self.new }
     {
         self.laws();
         if block.kind() == Kind::PointerFree {
@@ -108,6 +112,7 @@ impl Marker {
         j: usize,
     )
         requires pages { length self.old.dirty ≡ length map.now }
+        requires objects { AreMarksObjects (found_in map.now) self.old }
         requires lawful { IsLawful map.now }
         requires bytes { heap_bytes ≡ PAGE_BYTES * length map.now }
         requires memory { length reader.old.words ≡ PAGE_WORDS * length map.now }
@@ -119,6 +124,7 @@ impl Marker {
         ensures rereads { RereadsObjects (found_in map.now) reader.old.words self.old (page_start (page + 1)) (64 * j) (64 * (j + 1)) reader.old.reads self.old reader.new.reads self.new }
         ensures words { reader.new.words ≡ reader.old.words }
         ensures moments { reader.new.moments ≡ reader.old.moments }
+        ensures objects { AreMarksObjects (found_in map.now) self.new }
     {
         self.laws();
         let marks = self.marks.word(j);
@@ -141,6 +147,7 @@ impl Marker {
         granule: usize,
     )
         requires pages { length self.old.dirty ≡ length map.now }
+        requires objects { AreMarksObjects (found_in map.now) self.old }
         requires lawful { IsLawful map.now }
         requires bytes { heap_bytes ≡ PAGE_BYTES * length map.now }
         requires memory { length reader.old.words ≡ PAGE_WORDS * length map.now }
@@ -153,6 +160,7 @@ impl Marker {
         ensures rereads { RereadsObjects (found_in map.now) reader.old.words self.old (page_start (page + 1)) granule (granule + 1) reader.old.reads self.old reader.new.reads self.new }
         ensures words { reader.new.words ≡ reader.old.words }
         ensures moments { reader.new.moments ≡ reader.old.moments }
+        ensures objects { AreMarksObjects (found_in map.now) self.new }
     {
         self.laws();
         let base = FIRST_ADDRESS + GRANULE_BYTES * granule as u64;
@@ -185,6 +193,7 @@ impl Marker {
         high: u64,
     ) -> u64
         requires pages { length self.old.dirty ≡ length map.now }
+        requires objects { AreMarksObjects (found_in map.now) self.old }
         requires lawful { IsLawful map.now }
         requires bytes { heap_bytes ≡ PAGE_BYTES * length map.now }
         requires memory { length reader.old.words ≡ PAGE_WORDS * length map.now }
@@ -200,6 +209,7 @@ impl Marker {
         ensures words { reader.new.words ≡ reader.old.words }
         ensures moments { reader.new.moments ≡ reader.old.moments }
         ensures reads { WORD_BYTES * reader.new.reads + low ≤ WORD_BYTES * reader.old.reads + result }
+        ensures objects { AreMarksObjects (found_in map.now) self.new }
     {
         self.laws();
         let part = part_between(found, low, high);

@@ -3,7 +3,7 @@ ghost use Rattle.std.specs.Prelude.{◌≡◌, ℕ, ◌+◌, ◌*◌, ◌<◌, �
 ghost use Rattle.words.specs.declared.limits.TheConstants.{PAGE_WORDS};
 ghost use Rattle.words.specs.Bits.{Has, IsFirstFrom};
 ghost use Rattle.block_map.specs.FoundIn.{found_in};
-ghost use Rattle.marker.specs.Marking.{IsClean, with_dirty};
+ghost use Rattle.marker.specs.Marking.{IsClean, with_dirty, AreMarksObjects};
 ghost use Rattle.marker.specs.Growth.{Traces};
 ghost use Rattle.marker.specs.Beside.{AreBeside, IsStill, TracesIn};
 ghost use Rattle.marker.specs.Retracing.{Retraces, RetracesLowest};
@@ -17,6 +17,7 @@ impl Marker {
     /// Reads the words of marked Normal objects on the lowest dirty page again.
     pub fn retrace(&mut self, map: &BlockMap, reader: &mut Reader) -> Option<PageNo>
         requires pages { length self.old.dirty ≡ length map.now }
+        requires objects { AreMarksObjects (found_in map.now) self.old }
         requires memory { length reader.old.words ≡ PAGE_WORDS * length map.now }
         requires still { (p : ℕ) → IsFirstFrom self.old.dirty 0 p → IsStill (found_in map.now) reader.old.words reader.old.moments p }
         ensures page { MatchOption result (IsClean self.old × (self.new ≡ self.old)) (λ p. RetracesLowest (found_in map.now) reader.old.words p self.old self.new) }
@@ -26,6 +27,7 @@ impl Marker {
         ensures moments { reader.new.moments ≡ reader.old.moments }
         ensures reads { reader.new.reads ≤ reader.old.reads + PAGE_WORDS }
         ensures none { IfNone result (reader.new.reads ≡ reader.old.reads) }
+        ensures objects { AreMarksObjects (found_in map.now) self.new }
     {
         let page = self.first_dirty()?;
         self.reread_page(map, reader, page);
@@ -36,6 +38,7 @@ impl Marker {
     /// hasn't isn't dirty.
     pub fn retrace_page(&mut self, map: &BlockMap, reader: &mut Reader, page: PageNo) -> bool
         requires pages { length self.old.dirty ≡ length map.now }
+        requires objects { AreMarksObjects (found_in map.now) self.old }
         requires memory { length reader.old.words ≡ PAGE_WORDS * length map.now }
         requires still { Has self.old.dirty page → IsStill (found_in map.now) reader.old.words reader.old.moments page }
         ensures page { result ≡ true → Retraces (found_in map.now) reader.old.words page self.old self.new }
@@ -46,6 +49,7 @@ impl Marker {
         ensures moments { reader.new.moments ≡ reader.old.moments }
         ensures reads { reader.new.reads ≤ reader.old.reads + PAGE_WORDS }
         ensures none { result ≡ false → reader.new.reads ≡ reader.old.reads }
+        ensures objects { AreMarksObjects (found_in map.now) self.new }
     {
         if !self.is_dirty(map, page) {
             return false;
@@ -81,6 +85,7 @@ impl Marker {
     // Makes a dirty page clean, and reads the words of marked Normal objects on it again.
     fn reread_page(&mut self, map: &BlockMap, reader: &mut Reader, page: PageNo)
         requires pages { length self.old.dirty ≡ length map.now }
+        requires objects { AreMarksObjects (found_in map.now) self.old }
         requires memory { length reader.old.words ≡ PAGE_WORDS * length map.now }
         requires dirty { Has self.old.dirty page }
         requires still { IsStill (found_in map.now) reader.old.words reader.old.moments page }
@@ -90,6 +95,7 @@ impl Marker {
         ensures words { reader.new.words ≡ reader.old.words }
         ensures moments { reader.new.moments ≡ reader.old.moments }
         ensures reads { reader.new.reads ≤ reader.old.reads + PAGE_WORDS }
+        ensures objects { AreMarksObjects (found_in map.now) self.new }
     {
         self.laws();
         reader.laws();

@@ -5,7 +5,7 @@ ghost use Rattle.words.specs.declared.limits.TheConstants.{PAGE_BYTES, PAGE_WORD
 ghost use Rattle.words.specs.Layout.{page_of};
 ghost use Rattle.block_map.specs.Objects.{IsPlaced};
 ghost use Rattle.block_map.specs.FoundIn.{found_in, IsLawful};
-ghost use Rattle.marker.specs.Marking.{IsOutside, StaysDirty, with_carried, word_address};
+ghost use Rattle.marker.specs.Marking.{IsOutside, StaysDirty, with_carried, word_address, AreMarksObjects};
 ghost use Rattle.marker.specs.Work.{cost};
 ghost use Rattle.marker.specs.Invariant.{AreRootsMarked};
 ghost use Rattle.marker.specs.Beside.{MarksRow};
@@ -43,8 +43,10 @@ impl Marker {
         fourth: u64,
     ) -> bool
         requires pages { length self.old.dirty ≡ length map.now }
+        requires objects { AreMarksObjects (found_in map.now) self.old }
         ensures marks { MarksWords (found_in map.now) self.old (first ∷ second ∷ third ∷ fourth ∷ []) self.new }
         ensures stray { TellsStray (found_in map.now) (PAGE_BYTES * length map.now) (first ∷ second ∷ third ∷ fourth ∷ []) result }
+        ensures objects { AreMarksObjects (found_in map.now) self.new }
     {
         let bytes = heap_bytes(map);
         let a = self.mark_word(map, bytes, first);
@@ -58,10 +60,12 @@ impl Marker {
     #[inline]
     fn mark_fours(&mut self, map: &BlockMap, heap_bytes: u64, words: &mut Words) -> bool
         requires pages { length self.old.dirty ≡ length map.now }
+        requires objects { AreMarksObjects (found_in map.now) self.old }
         requires lawful { IsLawful map.now }
         requires bytes { heap_bytes ≡ PAGE_BYTES * length map.now }
         ensures marks { MarksFirst (found_in map.now) self.old words.old words.new self.new }
         ensures stray { TellsFirst (found_in map.now) (PAGE_BYTES * length map.now) words.old words.new result }
+        ensures objects { AreMarksObjects (found_in map.now) self.new }
     {
         let mut stray = false;
         while let Some((first, second, third, fourth)) = words.next_four() {
@@ -76,10 +80,12 @@ impl Marker {
     #[inline]
     fn mark_each(&mut self, map: &BlockMap, heap_bytes: u64, words: Words) -> bool
         requires pages { length self.old.dirty ≡ length map.now }
+        requires objects { AreMarksObjects (found_in map.now) self.old }
         requires lawful { IsLawful map.now }
         requires bytes { heap_bytes ≡ PAGE_BYTES * length map.now }
         ensures marks { MarksWords (found_in map.now) self.old words.entry self.new }
         ensures stray { TellsStray (found_in map.now) (PAGE_BYTES * length map.now) words.entry result }
+        ensures objects { AreMarksObjects (found_in map.now) self.new }
     {
         let mut stray = false;
         for word in words {
@@ -94,10 +100,12 @@ impl Marker {
     #[inline(never)]
     fn mark_many(&mut self, map: &BlockMap, heap_bytes: u64, words: Words) -> bool
         requires pages { length self.old.dirty ≡ length map.now }
+        requires objects { AreMarksObjects (found_in map.now) self.old }
         requires lawful { IsLawful map.now }
         requires bytes { heap_bytes ≡ PAGE_BYTES * length map.now }
         ensures marks { MarksWords (found_in map.now) self.old words.entry self.new }
         ensures stray { TellsStray (found_in map.now) (PAGE_BYTES * length map.now) words.entry result }
+        ensures objects { AreMarksObjects (found_in map.now) self.new }
     {
         let mut left = words;
         let first = self.mark_fours(map, heap_bytes, &mut left);
@@ -111,10 +119,12 @@ impl Marker {
     #[inline]
     pub(crate) fn mark_all(&mut self, map: &BlockMap, heap_bytes: u64, words: Words) -> bool
         requires pages { length self.old.dirty ≡ length map.now }
+        requires objects { AreMarksObjects (found_in map.now) self.old }
         requires lawful { IsLawful map.now }
         requires bytes { heap_bytes ≡ PAGE_BYTES * length map.now }
         ensures marks { MarksWords (found_in map.now) self.old words.entry self.new }
         ensures stray { TellsStray (found_in map.now) (PAGE_BYTES * length map.now) words.entry result }
+        ensures objects { AreMarksObjects (found_in map.now) self.new }
     {
         if words.len() < FEW {
             self.mark_each(map, heap_bytes, words)
@@ -145,6 +155,7 @@ impl Marker {
         count: u64,
     )
         requires pages { length self.old.dirty ≡ length map.now }
+        requires objects { AreMarksObjects (found_in map.now) self.old }
         requires lawful { IsLawful map.now }
         requires bytes { heap_bytes ≡ PAGE_BYTES * length map.now }
         requires memory { length reader.old.words ≡ PAGE_WORDS * length map.now }
@@ -155,6 +166,7 @@ impl Marker {
         ensures words { reader.new.words ≡ reader.old.words }
         ensures moments { reader.new.moments ≡ reader.old.moments }
         ensures counted { reader.new.reads ≡ reader.old.reads + count }
+        ensures objects { AreMarksObjects (found_in map.now) self.new }
     {
         self.laws();
         reader.laws();
@@ -167,12 +179,14 @@ impl Marker {
     /// Marks the objects that root words point into. Entries stay where they are.
     pub fn scan_roots(&mut self, map: &BlockMap, roots: &[u64])
         requires pages { length self.old.dirty ≡ length map.now }
+        requires objects { AreMarksObjects (found_in map.now) self.old }
         ensures marks { MarksWords (found_in map.now) self.old roots.now self.new }
         ensures traces { (words : List ℕ) → Traces (found_in map.now) words roots.now self.old self.new }
         ensures roots { AreRootsMarked (found_in map.now) roots.now self.new }
         ensures dirty { StaysDirty self.old self.new }
         ensures cost { cost (found_in map.now) self.new ≤ cost (found_in map.now) self.old }
         ensures lawful { IsLawful map.now }
+        ensures objects { AreMarksObjects (found_in map.now) self.new }
     {
         self.laws();
         let heap_bytes = heap_bytes(map);

@@ -5,7 +5,7 @@ ghost use Rattle.block_map.specs.declared.found.Found.{Found};
 ghost use Rattle.block_map.specs.Objects.{IsPlaced};
 ghost use Rattle.block_map.specs.FoundIn.{found_in, IsLawful};
 ghost use Rattle.marker.specs.declared.entry.Entry.{Entry};
-ghost use Rattle.marker.specs.Marking.{IsEmpty, StaysDirty, entries};
+ghost use Rattle.marker.specs.Marking.{IsEmpty, StaysDirty, entries, AreMarksObjects};
 ghost use Rattle.marker.specs.Work.{cost};
 ghost use Rattle.marker.specs.Growth.{Traces};
 ghost use Rattle.marker.specs.Beside.{AreBeside, TracesIn};
@@ -37,6 +37,7 @@ impl Marker {
     /// Reads words of entries, at most so many. The entry that was begun is read to its end before another is begun.
     pub fn step(&mut self, map: &BlockMap, reader: &mut Reader, budget: u64) -> Marked
         requires pages { length self.old.dirty ≡ length map.now }
+        requires objects { AreMarksObjects (found_in map.now) self.old }
         requires memory { length reader.old.words ≡ PAGE_WORDS * length map.now }
         ensures takes { Takes (found_in map.now) reader.old.moments self.old result.read self.new }
         ensures beside { AreBeside (found_in map.now) self.old.dirty reader.old.moments → TracesIn (found_in map.now) reader.old.moments self.old self.new }
@@ -51,6 +52,7 @@ impl Marker {
         ensures words { reader.new.words ≡ reader.old.words }
         ensures moments { reader.new.moments ≡ reader.old.moments }
         ensures reads { reader.new.reads ≡ reader.old.reads + result.read }
+        ensures objects { AreMarksObjects (found_in map.now) self.new }
     {
         self.laws();
         let heap_bytes = heap_bytes(map);
@@ -215,6 +217,7 @@ impl Marker {
         most: u64,
     ) -> u64
         requires pages { length self.old.dirty ≡ length map.now }
+        requires objects { AreMarksObjects (found_in map.now) self.old }
         requires lawful { IsLawful map.now }
         requires bytes { heap_bytes ≡ PAGE_BYTES * length map.now }
         requires live { IsLive (found_in map.now) self.old found }
@@ -230,6 +233,7 @@ impl Marker {
         ensures words { reader.new.words ≡ reader.old.words }
         ensures moments { reader.new.moments ≡ reader.old.moments }
         ensures reads { reader.new.reads ≡ reader.old.reads + result }
+        ensures objects { AreMarksObjects (found_in map.now) self.new }
     {
         self.laws();
         let left = self.left_in(found);
@@ -251,6 +255,7 @@ impl Marker {
         most: u64,
     ) -> u64
         requires pages { length self.old.dirty ≡ length map.now }
+        requires objects { AreMarksObjects (found_in map.now) self.old }
         requires lawful { IsLawful map.now }
         requires bytes { heap_bytes ≡ PAGE_BYTES * length map.now }
         requires live { IsLive (found_in map.now) self.old found }
@@ -263,6 +268,7 @@ impl Marker {
         ensures words { reader.new.words ≡ reader.old.words }
         ensures moments { reader.new.moments ≡ reader.old.moments }
         ensures reads { reader.new.reads ≡ reader.old.reads + result }
+        ensures objects { AreMarksObjects (found_in map.now) self.new }
     {
         let Some(entry) = self.current else {
             unreachable!();

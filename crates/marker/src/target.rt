@@ -1,16 +1,19 @@
 //! The marking of the object that one word points into.
-ghost use Rattle.std.specs.Prelude.{◌≡◌, ℕ, ◌+◌, ◌*◌, ◌<◌, ◌≤◌, [], ◌∷◌, length, Option, Some};
-ghost use Rattle.words.specs.declared.limits.TheConstants.{FIRST_ADDRESS, PAGE_BYTES};
+ghost use Rattle.std.specs.Prelude.{◌≡◌, ℕ, ◌+◌, ◌*◌, ◌%◌, ◌<◌, ◌≤◌, [], ◌∷◌, true, length, Option, Some};
+ghost use Rattle.words.specs.declared.limits.TheConstants.{FIRST_ADDRESS, GRANULE_BYTES, PAGE_BYTES};
+ghost use Rattle.words.specs.Bits.{Has};
+ghost use Rattle.words.specs.Layout.{granule};
 ghost use Rattle.block_map.specs.declared.found.Found.{Found};
 ghost use Rattle.block_map.specs.Objects.{IsPlaced};
 ghost use Rattle.block_map.specs.FoundIn.{found_in, IsLawful};
+ghost use Rattle.marker.specs.Marking.{AreMarksObjects};
 ghost use Rattle.marker.specs.Growth.{Awaits, MarksWord, TellsStray};
 
 use crate::entry::Entry;
 use crate::marker::Marker;
 use crate::spread::dirty_object;
 use block_map::{BlockMap, Found};
-use words::limits::FIRST_ADDRESS;
+use words::limits::{FIRST_ADDRESS, GRANULE_BYTES};
 use words::{Kind, granule_of};
 
 impl Marker {
@@ -19,10 +22,12 @@ impl Marker {
     #[inline]
     pub(crate) fn mark_word(&mut self, map: &BlockMap, heap_bytes: u64, word: u64) -> bool
         requires pages { length self.old.dirty ≡ length map.now }
+        requires objects { AreMarksObjects (found_in map.now) self.old }
         requires lawful { IsLawful map.now }
         requires bytes { heap_bytes ≡ PAGE_BYTES * length map.now }
         ensures marks { MarksWord (found_in map.now) word self.old self.new }
         ensures stray { TellsStray (found_in map.now) (PAGE_BYTES * length map.now) (word ∷ []) result }
+        ensures objects { AreMarksObjects (found_in map.now) self.new }
     {
         if word.wrapping_sub(FIRST_ADDRESS) >= heap_bytes {
             return false;
@@ -33,15 +38,22 @@ impl Marker {
     }
 
     // Marks the object that a word points into, if it points into one. Most words point into none, so that the loop over
-    // words is to hold the test of the range and not this. Answers whether it points into none. Most pages are cut, so that
-    // what is on others is looked up elsewhere.
+    // words is to hold the test of the range and not this. Answers whether it points into none. A word that is the base of a
+    // marked object has its mark looked at alone. Most pages are cut, so that what is on others is looked up elsewhere.
     #[inline(never)]
     fn mark_target(&mut self, map: &BlockMap, word: u64) -> bool
         requires pages { length self.old.dirty ≡ length map.now }
+        requires objects { AreMarksObjects (found_in map.now) self.old }
+        requires lawful { IsLawful map.now }
         requires inside { (FIRST_ADDRESS ≤ word) × (word < FIRST_ADDRESS + PAGE_BYTES * length map.now) }
         ensures marks { MarksWord (found_in map.now) word self.old self.new }
         ensures stray { TellsStray (found_in map.now) (PAGE_BYTES * length map.now) (word ∷ []) result }
+        ensures objects { AreMarksObjects (found_in map.now) self.new }
     {
+        self.laws();
+        if self.is_marked_base(word) {
+            return false;
+        }
         let Some(answer) = map.find_in_cell(word) else {
             return self.mark_elsewhere(map, word);
         };
@@ -52,13 +64,24 @@ impl Marker {
         false
     }
 
+    // Whether the word is the first address of a marked granule. Each mark is that of an object, which then has its base there.
+    #[inline]
+    fn is_marked_base(&self, word: u64) -> bool
+        requires inside { (FIRST_ADDRESS ≤ word) × (granule word < length self.now.marks) }
+        ensures yes { result ≡ true → (word % GRANULE_BYTES ≡ 0) × Has self.now.marks (granule word) }
+    {
+        word % GRANULE_BYTES == 0 && self.marks.is_set(granule_of(word))
+    }
+
     // The same, wherever the word points.
     #[inline(never)]
     fn mark_elsewhere(&mut self, map: &BlockMap, word: u64) -> bool
         requires pages { length self.old.dirty ≡ length map.now }
+        requires objects { AreMarksObjects (found_in map.now) self.old }
         requires inside { (FIRST_ADDRESS ≤ word) × (word < FIRST_ADDRESS + PAGE_BYTES * length map.now) }
         ensures marks { MarksWord (found_in map.now) word self.old self.new }
         ensures stray { TellsStray (found_in map.now) (PAGE_BYTES * length map.now) (word ∷ []) result }
+        ensures objects { AreMarksObjects (found_in map.now) self.new }
     {
         let Some(found) = map.find(word) else {
             return true;

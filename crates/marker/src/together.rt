@@ -7,7 +7,7 @@ ghost use Rattle.block_map.specs.declared.found.Found.{Found};
 ghost use Rattle.block_map.specs.Objects.{IsPlaced, LiesOnPage};
 ghost use Rattle.block_map.specs.FoundIn.{found_in, IsLawful};
 ghost use Rattle.marker.specs.declared.entry.Entry.{Entry};
-ghost use Rattle.marker.specs.Marking.{with_stack, word_address};
+ghost use Rattle.marker.specs.Marking.{with_stack, word_address, AreMarksObjects};
 ghost use Rattle.marker.specs.Beside.{MarksRow};
 ghost use Rattle.marker.specs.Entries.{IsSpent, IsOnTop, AreUnreadFrom, Takes};
 ghost use Rattle.marker.specs.Begun.{IsBegun, AreBegun, Finishes, entry_begun, entries_begun, words_begun};
@@ -111,6 +111,7 @@ impl Marker {
     #[inline]
     fn mark_begun(&mut self, map: &BlockMap, heap_bytes: u64, reader: &mut Reader, begun: Begun)
         requires pages { length self.old.dirty ≡ length map.now }
+        requires objects { AreMarksObjects (found_in map.now) self.old }
         requires lawful { IsLawful map.now }
         requires bytes { heap_bytes ≡ PAGE_BYTES * length map.now }
         requires memory { length reader.old.words ≡ PAGE_WORDS * length map.now }
@@ -119,6 +120,7 @@ impl Marker {
         ensures words { reader.new.words ≡ reader.old.words }
         ensures moments { reader.new.moments ≡ reader.old.moments }
         ensures reads { reader.new.reads + 2 ≡ reader.old.reads + begun.len }
+        ensures objects { AreMarksObjects (found_in map.now) self.new }
     {
         self.laws();
         reader.laws();
@@ -136,6 +138,7 @@ impl Marker {
     #[inline]
     fn finish_begun(&mut self, map: &BlockMap, heap_bytes: u64, reader: &mut Reader, begun: Begun)
         requires pages { length self.old.dirty ≡ length map.now }
+        requires objects { AreMarksObjects (found_in map.now) self.old }
         requires lawful { IsLawful map.now }
         requires bytes { heap_bytes ≡ PAGE_BYTES * length map.now }
         requires memory { length reader.old.words ≡ PAGE_WORDS * length map.now }
@@ -144,6 +147,7 @@ impl Marker {
         ensures words { reader.new.words ≡ reader.old.words }
         ensures moments { reader.new.moments ≡ reader.old.moments }
         ensures reads { reader.new.reads + 2 ≡ reader.old.reads + begun.len }
+        ensures objects { AreMarksObjects (found_in map.now) self.new }
     {
         self.mark_begun(map, heap_bytes, reader, begun);
         self.set_current(Entry {
@@ -163,6 +167,7 @@ impl Marker {
         begun: &ArrayVec<Begun, TOGETHER>,
     ) -> u64
         requires pages { length self.old.dirty ≡ length map.now }
+        requires objects { AreMarksObjects (found_in map.now) self.old }
         requires lawful { IsLawful map.now }
         requires bytes { heap_bytes ≡ PAGE_BYTES * length map.now }
         requires memory { length reader.old.words ≡ PAGE_WORDS * length map.now }
@@ -176,6 +181,7 @@ impl Marker {
         ensures words { reader.new.words ≡ reader.old.words }
         ensures moments { reader.new.moments ≡ reader.old.moments }
         ensures reads { reader.new.reads + 2 * length begun.now.items ≡ reader.old.reads + result }
+        ensures objects { AreMarksObjects (found_in map.now) self.new }
     {
         self.laws();
         let mut read = 0;
@@ -200,6 +206,7 @@ impl Marker {
         most: u64,
     ) -> u64
         requires pages { length self.old.dirty ≡ length map.now }
+        requires objects { AreMarksObjects (found_in map.now) self.old }
         requires lawful { IsLawful map.now }
         requires bytes { heap_bytes ≡ PAGE_BYTES * length map.now }
         requires memory { length reader.old.words ≡ PAGE_WORDS * length map.now }
@@ -212,6 +219,7 @@ impl Marker {
         ensures words { reader.new.words ≡ reader.old.words }
         ensures moments { reader.new.moments ≡ reader.old.moments }
         ensures reads { reader.new.reads ≡ reader.old.reads + result }
+        ensures objects { AreMarksObjects (found_in map.now) self.new }
     {
         self.laws();
         let room = (ENTRIES - self.depth()) as u64;

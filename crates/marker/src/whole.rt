@@ -5,7 +5,7 @@ ghost use Rattle.words.specs.declared.limits.TheConstants.{FIRST_ADDRESS, MARK_S
 ghost use Rattle.words.specs.Layout.{page_of};
 ghost use Rattle.block_map.specs.Objects.{IsPlaced, LiesOnPage};
 ghost use Rattle.block_map.specs.FoundIn.{found_in, IsLawful};
-ghost use Rattle.marker.specs.Marking.{with_current, word_address};
+ghost use Rattle.marker.specs.Marking.{with_current, word_address, AreMarksObjects};
 ghost use Rattle.marker.specs.Entries.{IsSpent, IsOnTop, AreUnreadFrom, ReadsNext, Takes};
 
 use crate::entry::Entry;
@@ -19,6 +19,7 @@ use words::limits::PAGE_WORDS;
 // each may fill the rest of the stack then. Few wait in a tree, which mostly lies in the order in which it is marked, so that
 // the processor itself fetches it ahead.
 const WIDE: usize = 2 * TOGETHER;
+
 const CROWDED: usize = ENTRIES - 4 * TOGETHER;
 
 // Whether the words of an object are at most so many, and stand on one page.
@@ -77,6 +78,7 @@ impl Marker {
     #[inline]
     fn read_whole(&mut self, map: &BlockMap, heap_bytes: u64, reader: &mut Reader, found: Found)
         requires pages { length self.old.dirty ≡ length map.now }
+        requires objects { AreMarksObjects (found_in map.now) self.old }
         requires lawful { IsLawful map.now }
         requires bytes { heap_bytes ≡ PAGE_BYTES * length map.now }
         requires top { IsOnTop (found_in map.now) self.old found }
@@ -90,6 +92,7 @@ impl Marker {
         ensures words { reader.new.words ≡ reader.old.words }
         ensures moments { reader.new.moments ≡ reader.old.moments }
         ensures reads { reader.new.reads ≡ reader.old.reads + found.len }
+        ensures objects { AreMarksObjects (found_in map.now) self.new }
     {
         self.laws();
         self.drop_top();
@@ -112,6 +115,7 @@ impl Marker {
         most: u64,
     ) -> u64
         requires pages { length self.old.dirty ≡ length map.now }
+        requires objects { AreMarksObjects (found_in map.now) self.old }
         requires lawful { IsLawful map.now }
         requires bytes { heap_bytes ≡ PAGE_BYTES * length map.now }
         requires memory { length reader.old.words ≡ PAGE_WORDS * length map.now }
@@ -124,6 +128,7 @@ impl Marker {
         ensures words { reader.new.words ≡ reader.old.words }
         ensures moments { reader.new.moments ≡ reader.old.moments }
         ensures reads { reader.new.reads ≡ reader.old.reads + result }
+        ensures objects { AreMarksObjects (found_in map.now) self.new }
     {
         map.laws();
         let Some(found) = self.top(map, known) else {
@@ -148,6 +153,7 @@ impl Marker {
         most: u64,
     ) -> u64
         requires pages { length self.old.dirty ≡ length map.now }
+        requires objects { AreMarksObjects (found_in map.now) self.old }
         requires lawful { IsLawful map.now }
         requires bytes { heap_bytes ≡ PAGE_BYTES * length map.now }
         requires few { known ≤ MARK_STACK_ENTRIES }
@@ -161,6 +167,7 @@ impl Marker {
         ensures words { reader.new.words ≡ reader.old.words }
         ensures moments { reader.new.moments ≡ reader.old.moments }
         ensures reads { reader.new.reads ≡ reader.old.reads + result }
+        ensures objects { AreMarksObjects (found_in map.now) self.new }
     {
         let depth = self.depth();
         if depth < known + WIDE || depth > CROWDED {
@@ -183,6 +190,7 @@ impl Marker {
         most: u64,
     ) -> u64
         requires pages { length self.old.dirty ≡ length map.now }
+        requires objects { AreMarksObjects (found_in map.now) self.old }
         requires bytes { heap_bytes ≡ PAGE_BYTES * length map.now }
         requires few { known ≤ MARK_STACK_ENTRIES }
         requires memory { length reader.old.words ≡ PAGE_WORDS * length map.now }
@@ -195,6 +203,7 @@ impl Marker {
         ensures words { reader.new.words ≡ reader.old.words }
         ensures moments { reader.new.moments ≡ reader.old.moments }
         ensures reads { reader.new.reads ≡ reader.old.reads + result }
+        ensures objects { AreMarksObjects (found_in map.now) self.new }
     {
         self.laws();
         map.laws();

@@ -32,6 +32,7 @@ loop-k-init c =
       words = refl;
       moments = refl;
       reads = omega arith;
+      objects = c.requires.objects;
     }
 
 -- the object that is read to its end
@@ -128,4 +129,5 @@ loop-k-preserved c =
       words = e.words ∙ i.words;
       moments = e.moments ∙ i.moments;
       reads = (let r = e.reads in let k = i.reads in omega arith);
+      objects = e.objects;
     }

@@ -3,7 +3,7 @@ use Rattle.std.specs.Prelude.{drop}
 use Rattle.words.specs.declared.limits.TheConstants.{MARK_STACK_ENTRIES, PAGE_GRANULES}
 use Rattle.block_map.specs.FoundIn.{found_in}
 use Rattle.marker.specs.declared.entry.Entry.{Entry}
-use Rattle.marker.specs.Marking.{with_stack}
+use Rattle.marker.specs.Marking.{with_stack, AreMarksObjects}
 use Rattle.marker.specs.Entries.{AreUnreadFrom, IsSpent, Takes}
 use Rattle.marker.specs.Begun.{AreBegun, entries_begun, words_begun}
 use Rattle.marker.proofs.marker.Marker.finish_objects.Given as goal
@@ -21,4 +21,5 @@ invariant-loop-k l = record {
   words : l.reader.words ≡ l.initial.reader.words;
   moments : l.reader.moments ≡ l.initial.reader.moments;
   reads : l.reader.reads + 2 * l.k ≡ l.initial.reader.reads + l.read;
+  objects : AreMarksObjects (found_in l.map) l.self;
 }

@@ -7,7 +7,7 @@ use Rattle.marker.proofs.marker.Marker.read_wholes.Goals as goal
 use Rattle.marker.proofs.marker.Marker.read_wholes.Goals.{At-loop-heap_bytes, After-read_some-more}
 
 pub loop-heap_bytes-init : goal.loop-heap_bytes-init
-loop-heap_bytes-init c = record { takes = nothing; known = c.requires.known; done = c.requires.done; within = omega arith; words = refl; moments = refl; reads = omega arith }
+loop-heap_bytes-init c = record { takes = nothing; known = c.requires.known; done = c.requires.done; within = omega arith; words = refl; moments = refl; reads = omega arith; objects = c.requires.objects }
 
 grows : (c : At-loop-heap_bytes) → Grows c.args.self.now c.loop-heap_bytes.self
 grows c = takes_grows (length c.args.map.now) (found_in c.args.map.now) c.laws-2.ensures.lawful.map c.args.reader.now.moments c.args.self.now (marks_of _ _ c.laws.ensures c.requires.pages) c.loop-heap_bytes.invariant.takes
@@ -47,4 +47,5 @@ loop-heap_bytes-preserved c =
       words = e.words ∙ i.words;
       moments = e.moments ∙ i.moments;
       reads = (let x = e.reads in let y = i.reads in omega arith);
+      objects = e.objects;
     }

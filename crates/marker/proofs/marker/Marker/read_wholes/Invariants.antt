@@ -1,5 +1,6 @@
 use Rattle.std.proofs.Common.{◌≡◌, ◌+◌, ◌≤◌, Some}
 use Rattle.block_map.specs.FoundIn.{found_in}
+use Rattle.marker.specs.Marking.{AreMarksObjects}
 use Rattle.marker.specs.declared.entry.Entry.{Entry}
 use Rattle.marker.specs.Work.{cost}
 use Rattle.marker.specs.Entries.{AreUnreadFrom, IsSpent, Takes}
@@ -14,6 +15,7 @@ invariant-loop-heap_bytes l = record {
   words : l.reader.words ≡ l.initial.reader.words;
   moments : l.reader.moments ≡ l.initial.reader.moments;
   reads : l.reader.reads ≡ l.initial.reader.reads + l.read;
+  objects : AreMarksObjects (found_in l.map) l.self;
 }
 
 abbrev pub decreases-loop-heap_bytes : goal.decreases-loop-heap_bytes

@@ -16,6 +16,7 @@ loop-j-init c = record {
   rereads = objects_none (found_in c.args.map.now) c.args.reader.now.words c.args.self.now (page_start (c.args.page + 1)) (PAGE_GRANULES * c.args.page) (64 * (4 * c.args.page)) c.args.reader.now.reads c.args.self.now (omega arith) (λ f e n o from below. absurd (omega arith));
   words = refl;
   moments = refl;
+  objects = c.requires.objects;
 }
 
 pub reread_marked-requires-clause-pages : goal.reread_marked-requires-clause-pages
@@ -46,6 +47,7 @@ loop-j-preserved c =
           (subst (λ (w : List ℕ). RereadsObjects (found_in c.args.map.now) w c.loop-j.self (page_start (c.args.page + 1)) (64 * c.loop-j.j) (64 * (c.loop-j.j + 1)) c.loop-j.reader.reads c.loop-j.self c.reread_marked.new.reader.reads c.reread_marked.new.self) i.words c.reread_marked.ensures.rereads));
       words = c.reread_marked.ensures.words ∙ i.words;
       moments = c.reread_marked.ensures.moments ∙ i.moments;
+      objects = c.reread_marked.ensures.objects;
     }
 
 -- the marks of the page are all read

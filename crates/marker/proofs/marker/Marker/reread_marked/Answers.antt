@@ -16,6 +16,7 @@ loop-i-init c = record {
   low = omega arith;
   words = refl;
   moments = refl;
+  objects = c.requires.objects;
 }
 
 pub reread_at-requires-clause-pages : goal.reread_at-requires-clause-pages
@@ -40,6 +41,7 @@ loop-i-preserved c =
       low = omega arith;
       words = c.reread_at.ensures.words ∙ i.words;
       moments = c.reread_at.ensures.moments ∙ i.moments;
+      objects = c.reread_at.ensures.objects;
     }
 
 pub returns-clause-rereads : goal.returns-clause-rereads

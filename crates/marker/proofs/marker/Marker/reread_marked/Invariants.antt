@@ -1,6 +1,7 @@
 use Rattle.std.proofs.Common.{◌≡◌, ◌+◌, ◌-◌, ◌*◌, ◌≤◌}
 use Rattle.words.specs.Layout.{page_start}
 use Rattle.block_map.specs.FoundIn.{found_in}
+use Rattle.marker.specs.Marking.{AreMarksObjects}
 use Rattle.marker.specs.Retracing.{RereadsObjects}
 use Rattle.marker.proofs.marker.Marker.reread_marked.Given as goal
 
@@ -10,6 +11,7 @@ invariant-loop-i l = record {
   low : l.low ≤ 64;
   words : l.reader.words ≡ l.initial.reader.words;
   moments : l.reader.moments ≡ l.initial.reader.moments;
+  objects : AreMarksObjects (found_in l.map) l.self;
 }
 
 abbrev pub decreases-loop-i : goal.decreases-loop-i

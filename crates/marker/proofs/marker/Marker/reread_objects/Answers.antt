@@ -20,6 +20,7 @@ loop-found-init c =
       words = refl;
       moments = refl;
       reads = omega arith;
+      objects = c.requires.objects;
     }
 
 pub next_on_page-requires : goal.next_on_page-requires
@@ -47,6 +48,7 @@ loop-found-preserved c =
       words = e.words ∙ i.words;
       moments = e.moments ∙ i.moments;
       reads = (let a = e.reads in let b = i.reads in omega arith);
+      objects = e.objects;
     }
 
 -- the whole page is read

@@ -2,6 +2,7 @@ use Rattle.std.proofs.Common.{◌≡◌, ◌+◌, ◌-◌, ◌*◌, ◌%◌, ◌
 use Rattle.words.specs.declared.limits.TheConstants.{WORD_BYTES}
 use Rattle.words.specs.Layout.{page_start}
 use Rattle.block_map.specs.FoundIn.{found_in}
+use Rattle.marker.specs.Marking.{AreMarksObjects}
 use Rattle.marker.specs.Retracing.{Rereads}
 use Rattle.marker.proofs.marker.Marker.reread_objects.Given as goal
 
@@ -14,6 +15,7 @@ invariant-loop-found l = record {
   words : l.reader.words ≡ l.initial.reader.words;
   moments : l.reader.moments ≡ l.initial.reader.moments;
   reads : WORD_BYTES * l.reader.reads + page_start l.page ≤ WORD_BYTES * l.initial.reader.reads + l.address;
+  objects : AreMarksObjects (found_in l.map) l.self;
 }
 
 abbrev pub decreases-loop-found : goal.decreases-loop-found

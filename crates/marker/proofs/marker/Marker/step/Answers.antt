@@ -1,7 +1,8 @@
 use Rattle.std.proofs.Common.{◌≡◌, ◌∷◌, ◌+◌, ◌≤◌, ◌∙◌, ℕ, List, [], length, refl, sym, subst, arith}
 use Rattle.std.proofs.lemmas.Bool.{false≢true}
+use Rattle.words.specs.Bits.{Has}
 use Rattle.block_map.specs.FoundIn.{found_in}
-use Rattle.marker.specs.Marking.{Marking, StaysDirty}
+use Rattle.marker.specs.Marking.{Marking, AreMarksObjects, StaysDirty}
 use Rattle.marker.specs.Work.{cost}
 use Rattle.marker.specs.Growth.{Traces}
 use Rattle.marker.specs.Beside.{AreBeside, TracesIn}
@@ -14,7 +15,7 @@ use Rattle.marker.proofs.marker.Marker.step.Goals as goal
 use Rattle.marker.proofs.marker.Marker.step.Goals.{After-next, After-read_off-read}
 
 pub loop-found-init : goal.loop-found-init
-loop-found-init c = record { takes = nothing; known = known_none (found_in c.args.map.now) c.args.self.now _ (let room = c.laws.ensures.room in omega arith); within = omega arith; words = refl; moments = refl; reads = omega arith }
+loop-found-init c = record { takes = nothing; known = known_none (found_in c.args.map.now) c.args.self.now _ (let room = c.laws.ensures.room in omega arith); within = omega arith; words = refl; moments = refl; reads = omega arith; objects = c.requires.objects }
 
 -- what a chain of the marker's words comes to
 grows : (c : After-next) {n : ℕ} {m : Marking} → Takes (found_in c.args.map.now) c.args.reader.now.moments c.args.self.now n m → Grows c.args.self.now m
@@ -35,6 +36,19 @@ pub next-requires-clause-pages : goal.next-requires-clause-pages
 next-requires-clause-pages c =
     (takes_grows (length c.args.map.now) (found_in c.args.map.now) c.heap_bytes-heap_bytes.ensures.lawful.map c.args.reader.now.moments c.args.self.now (marks_of _ _ c.laws.ensures c.requires.pages) c.loop-found.invariant.takes).dirty_len
     ∙ c.requires.pages
+
+-- entries that are dropped leave the marks
+objects : (c : After-next) → AreMarksObjects (found_in c.args.map.now) c.next.new.self
+objects c k h = c.loop-found.invariant.objects k (subst (λ r. Has r k) c.next.ensures.settles.marks h)
+
+pub returns-then-read-budget-clause-objects : goal.returns-then-read-budget-clause-objects
+returns-then-read-budget-clause-objects c = objects (goal.at.returns-then-read-budget-clause-objects c).After-next
+
+pub returns-clause-objects : goal.returns-clause-objects
+returns-clause-objects c = objects (goal.at.returns-clause-objects c).After-next
+
+pub read_off-read-requires-clause-objects : goal.read_off-read-requires-clause-objects
+read_off-read-requires-clause-objects c = objects (goal.at.read_off-read-requires-clause-objects c).After-next
 
 pub next-requires-clause-known : goal.next-requires-clause-known
 next-requires-clause-known c = c.loop-found.invariant.known
@@ -132,4 +146,5 @@ loop-found-preserved c =
       words = c.read_off-read.ensures.words ∙ i.words;
       moments = c.read_off-read.ensures.moments ∙ i.moments;
       reads = (let a = c.read_off-read.ensures.reads in let b = i.reads in omega arith);
+      objects = c.read_off-read.ensures.objects;
     }

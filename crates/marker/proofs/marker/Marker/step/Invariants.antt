@@ -1,6 +1,6 @@
 use Rattle.std.proofs.Common.{◌≡◌, ◌+◌, ◌≤◌}
 use Rattle.block_map.specs.FoundIn.{found_in}
-use Rattle.marker.specs.Marking.{entries}
+use Rattle.marker.specs.Marking.{entries, AreMarksObjects}
 use Rattle.marker.specs.Work.{cost}
 use Rattle.marker.specs.Entries.{AreUnreadFrom, Takes}
 use Rattle.marker.proofs.marker.Marker.step.Given as goal
@@ -13,6 +13,7 @@ invariant-loop-found l = record {
   words : l.reader.words ≡ l.initial.reader.words;
   moments : l.reader.moments ≡ l.initial.reader.moments;
   reads : l.reader.reads ≡ l.initial.reader.reads + l.read;
+  objects : AreMarksObjects (found_in l.map) l.self;
 }
 
 abbrev pub decreases-loop-found : goal.decreases-loop-found
