@@ -2,7 +2,7 @@
 ghost use Rattle.std.specs.Prelude.{◌≡◌, ◌∷◌, ◌+◌, ◌*◌, ◌<◌, ◌≤◌, [], IfNone, IfSome, length};
 ghost use Rattle.words.specs.declared.limits.TheConstants.{PAGE_WORDS};
 ghost use Rattle.block_map.specs.FoundIn.{found_in};
-ghost use Rattle.marker.specs.Marking.{IsDone};
+ghost use Rattle.marker.specs.Marking.{AreMarksObjects, IsDone};
 ghost use Rattle.marker.specs.Work.{cost, dirty_pages, newly_pages, entry_words};
 ghost use Rattle.marker.specs.Invariant.{DirtyPageInvariant};
 ghost use Rattle.marker.specs.Closure.{AreClosed};
@@ -18,6 +18,7 @@ pub fn close_marks(marker: &mut Marker, map: &BlockMap, reader: &mut Reader, roo
     requires pages { length marker.old.dirty ≡ length map.now }
     requires memory { length reader.old.words ≡ PAGE_WORDS * length map.now }
     requires one { reader.old.moments ≡ reader.old.words ∷ [] }
+    requires objects { AreMarksObjects (found_in map.now) marker.old }
     requires invariant { DirtyPageInvariant (found_in map.now) reader.old.words marker.old }
     ensures closure { AreClosed (found_in map.now) reader.old.words roots.now marker.old marker.new }
     ensures done { IsDone marker.new }
@@ -42,6 +43,7 @@ pub(crate) fn mark_on(
     requires memory { length reader.old.words ≡ PAGE_WORDS * length map.now }
     requires one { reader.old.moments ≡ reader.old.words ∷ [] }
     requires some { 0 < most }
+    requires objects { AreMarksObjects (found_in map.now) marker.old }
     ensures traces { Traces (found_in map.now) reader.old.words [] marker.old marker.new }
     ensures done { IfNone result (IsDone marker.new) }
     ensures less { IfSome result (λ _. cost (found_in map.now) marker.new < cost (found_in map.now) marker.old) }

@@ -6,7 +6,7 @@
 ghost use Rattle.std.specs.Prelude.{◌≡◌, ◌*◌, true, length};
 ghost use Rattle.words.specs.declared.limits.TheConstants.{PAGE_WORDS};
 ghost use Rattle.block_map.specs.FoundIn.{found_in};
-ghost use Rattle.marker.specs.Marking.{IsDone};
+ghost use Rattle.marker.specs.Marking.{AreMarksObjects, IsDone};
 ghost use Rattle.marker.specs.Invariant.{DirtyPageInvariant};
 ghost use Rattle.marker.specs.Closure.{AreClosed};
 ghost use Rattle.marker.specs.Growth.{Traces};
@@ -61,6 +61,7 @@ pub(crate) fn mark_before_helpers(
 ) -> bool
     requires pages { length marker.old.dirty ≡ length map.now }
     requires memory { length memory.now ≡ PAGE_WORDS * length map.now }
+    requires objects { AreMarksObjects (found_in map.now) marker.old }
     requires invariant { DirtyPageInvariant (found_in map.now) memory.now marker.old }
     ensures closure { result ≡ true → AreClosed (found_in map.now) memory.now roots.now marker.old marker.new }
     ensures done { result ≡ true → IsDone marker.new }

@@ -2,7 +2,7 @@
 ghost use Rattle.std.specs.Prelude.{◌≡◌, ◌*◌, ◌<◌, All, IfOk, true, false, length};
 ghost use Rattle.words.specs.declared.limits.TheConstants.{PAGE_WORDS};
 ghost use Rattle.block_map.specs.FoundIn.{found_in};
-ghost use Rattle.marker.specs.Marking.{IsDone};
+ghost use Rattle.marker.specs.Marking.{AreMarksObjects, IsDone};
 ghost use Rattle.marker.specs.Invariant.{DirtyPageInvariant, AreRootsMarked};
 ghost use Rattle.marker.specs.Closure.{AreClosed};
 ghost use Rattle.marker.specs.Growth.{Traces};
@@ -101,6 +101,7 @@ pub fn close_marks_with<R: Threads + Wait + Sync, G: Gate>(
 )
     requires pages { length marker.old.dirty ≡ length map.now }
     requires memory { length memory.now ≡ PAGE_WORDS * length map.now }
+    requires objects { AreMarksObjects (found_in map.now) marker.old }
     requires invariant { DirtyPageInvariant (found_in map.now) memory.now marker.old }
     ensures closure { AreClosed (found_in map.now) memory.now roots.now marker.old marker.new }
     ensures done { IsDone marker.new }

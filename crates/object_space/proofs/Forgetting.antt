@@ -64,10 +64,6 @@ objects_swept mid new m y objects k marked =
     let kept = kept_is (is_kept mid.pending m.marks) (found_in mid.states) o.object.base o.object o.is (marked_kept mid.pending m.marks o.object (subst (Has m.marks) (sym o.first) marked)) in
     record { object = o.object; is = (kept_cases (is_kept new.pending m.marks) (found_in new.states) o.object.base o.object (y.same.same o.object.base ∙ kept)).0; first = o.first }
 
--- Each new mark is that of an object too.
-pub objects_marked : (found : ℕ → Option Found) (m m' : Marking) → AreMarksObjects found m → ((k : ℕ) → Has m'.marks k → Has m.marks k ⊎ IsObjectGranule found k) → AreMarksObjects found m'
-objects_marked found m m' before grown k h = ⊎_elim (before k) (λ o. o) (grown k h)
-
 -- Each mark is that of an object that is left.
 pub objects_forgotten : (old new : Store) (m : Marking) (n : ℕ) → ForgetsLazily old m.marks n new → AreMarksObjects (found_in old.states) m → AreMarksObjects (found_in new.states) m
 objects_forgotten old new m n x objects k marked =

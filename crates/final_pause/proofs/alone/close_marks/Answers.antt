@@ -1,5 +1,6 @@
 use Rattle.std.proofs.Common.{[], ◌∷◌, length, ◌∙◌, refl, sym, ap, arith}
 use Rattle.block_map.specs.FoundIn.{found_in}
+use Rattle.marker.proofs.Growing.{objects_marked}
 use Rattle.final_pause.proofs.Closing.{Closes, closes_step, closed, closed_reads}
 use Rattle.final_pause.proofs.alone.close_marks.Goals as goal
 use Rattle.final_pause.proofs.alone.close_marks.Goals.{After-mark_on}
@@ -42,3 +43,6 @@ returns-clause-closure c =
 
 pub mark_on-requires-clause-one : goal.mark_on-requires-clause-one
 mark_on-requires-clause-one c = c.loop.invariant.moments ∙ c.requires.one ∙ ap (λ w. w ∷ []) (sym c.loop.invariant.words)
+
+pub mark_on-requires-clause-objects : goal.mark_on-requires-clause-objects
+mark_on-requires-clause-objects c = objects_marked (found_in c.args.map.now) c.args.marker.now c.loop.marker c.requires.objects c.loop.invariant.closes.traces.objects

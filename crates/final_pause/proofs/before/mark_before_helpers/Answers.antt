@@ -1,6 +1,6 @@
 use Rattle.std.proofs.Common.{[], ◌∷◌, length, ◌∙◌, sym, ap, arith}
 use Rattle.block_map.specs.FoundIn.{found_in}
-use Rattle.marker.proofs.Growing.{traces_refl}
+use Rattle.marker.proofs.Growing.{objects_marked, traces_refl}
 use Rattle.final_pause.proofs.Closing.{Closes, closes_step, closed}
 use Rattle.final_pause.proofs.before.mark_before_helpers.Goals as goal
 use Rattle.final_pause.proofs.before.mark_before_helpers.Goals.{After-mark_on}
@@ -35,3 +35,6 @@ returns-clause-closure c = λ _.
 
 pub returns-clause-traces : goal.returns-clause-traces
 returns-clause-traces c = (closes (goal.at.returns-clause-traces c).After-mark_on).traces
+
+pub mark_on-requires-clause-objects : goal.mark_on-requires-clause-objects
+mark_on-requires-clause-objects c = objects_marked (found_in c.args.map.now) c.args.marker.now c.loop-more.marker c.requires.objects c.loop-more.invariant.closes.traces.objects

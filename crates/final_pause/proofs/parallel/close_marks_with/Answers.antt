@@ -5,7 +5,7 @@ use Rattle.marker.specs.Invariant.{DirtyPageInvariant}
 use Rattle.marker.specs.Closure.{Closure}
 use Rattle.marker.specs.Growth.{Traces}
 use Rattle.marker.proofs.Closures.{closure_same}
-use Rattle.marker.proofs.Growing.{traces_trans}
+use Rattle.marker.proofs.Growing.{objects_marked, traces_trans}
 use Rattle.final_pause.proofs.parallel.close_marks_with.Goals as goal
 use Rattle.final_pause.proofs.parallel.close_marks_with.Given.{Over}
 use Rattle.final_pause.proofs.parallel.close_marks_with.Goals.{After-mark_with_helpers}
@@ -34,3 +34,7 @@ returns-clause-traces g c =
     let mid = c.mark_with_helpers.new.marker in let new = c.close_marks.new.marker in
     traces_trans found words roots c.args.marker.now mid new (traces g (goal.at.returns-clause-traces g c).After-mark_with_helpers)
     (subst (λ (w : List ℕ). Traces found w roots mid new) c.new-reader.ensures.words c.close_marks.ensures.traces)
+
+pub close_marks-requires-clause-objects : goal.close_marks-requires-clause-objects
+close_marks-requires-clause-objects g c =
+    objects_marked (found_in c.args.map.now) c.args.marker.now c.mark_with_helpers.new.marker c.requires.objects (traces g (goal.at.close_marks-requires-clause-objects g c).After-mark_with_helpers).objects

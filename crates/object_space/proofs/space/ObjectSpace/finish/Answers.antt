@@ -1,4 +1,5 @@
-use Rattle.object_space.proofs.Forgetting.{forgets_lazily, objects_marked, objects_forgotten, carried_lazily}
+use Rattle.marker.proofs.Growing.{objects_marked}
+use Rattle.object_space.proofs.Forgetting.{forgets_lazily, objects_forgotten, carried_lazily}
 use Rattle.object_space.proofs.space.ObjectSpace.finish.Goals as goal
 
 pub forget_lazily-requires-clause-objects : goal.forget_lazily-requires-clause-objects
