@@ -17,6 +17,7 @@ use Rattle.marker.specs.Invariant.{DirtyPageInvariant, CarriedPageInvariant}
 use Rattle.marker.specs.Mutations.{BeginsPartial, KeepsWords, IsFreed}
 use Rattle.marker.proofs.Mutating.{free_traced, came_carried}
 use Rattle.marker.proofs.Closures.{same_object}
+use Rattle.marker.proofs.Objects.{blank_objects}
 use Rattle.object_space.proofs.Forgetting.{carried_swept}
 use Rattle.object_space.specs.Kept.{is_kept}
 use Rattle.object_space.proofs.Kept.{kept_cases, kept_is, marked_kept}
@@ -98,10 +99,6 @@ traced_freed t t' y y' f x objects map there loses frees phase needs keeps = rec
   carried = λ is. absurd (false≢true (sym is ∙ needs));
 }
 
--- nothing is marked
-pub fresh_objects : (found : ℕ → Option Found) (pages : ℕ) (m : Marking) → IsBlank pages m → AreMarksObjects found m
-fresh_objects found pages m blank k h = absurd (false≢true (sym (blank.marks.clear k) ∙ h))
-
 -- a cycle has ended
 pub traced_ended : (t : Store) (m : Marking) (needs : Bool) (count : ℕ) {reads : ℕ} → length m.dirty ≡ length t.states → AreMarksObjects (found_in t.states) m → (needs ≡ false → CarriedPageInvariant (found_in t.states) t.words m) → IsTraced t (record { marker = m; is_marking = false; needs_full = needs; count = count; reads = reads })
 traced_ended t m needs count pages objects carried = record { carried = carried; pages = pages; objects = objects; swept = λ is. absurd (clash is); invariant = λ is. absurd (clash is) }
@@ -130,7 +127,7 @@ pub traced_begun : (t0 t : Store) (y : Cycle) (m : Marking) (count : ℕ) {reads
     → IsTraced t (record { marker = m; is_marking = true; needs_full = false; count = count; reads = reads })
 traced_begun t0 t y m count x sweeps swept blank invariant carried = record {
   pages = blank.dirty.size ∙ x.pages ∙ sym sweeps.pages;
-  objects = fresh_objects (found_in t.states) (length y.marker.dirty) m blank;
+  objects = blank_objects (found_in t.states) (length y.marker.dirty) m blank;
   swept = λ is. swept;
   invariant = λ is. invariant (found_in t.states) t.words;
   carried = λ is. carried (found_in t.states) t.words;

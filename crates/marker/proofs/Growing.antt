@@ -7,7 +7,7 @@ use Rattle.words.specs.Bits.{Has}
 use Rattle.words.specs.declared.limits.TheConstants.{PAGE_BYTES}
 use Rattle.block_map.specs.declared.found.Found.{Found}
 use Rattle.marker.specs.declared.entry.Entry.{Entry}
-use Rattle.marker.specs.Marking.{Marking, AreMarksObjects, IsMarked, IsEntry, IsLeftToEntry, IsObjectGranule, IsOutside, Covers, IsNewlyMarked, word_address}
+use Rattle.marker.specs.Marking.{Marking, IsMarked, IsEntry, IsLeftToEntry, IsObjectGranule, IsOutside, Covers, IsNewlyMarked, word_address}
 use Rattle.pages.specs.Memory.{word_at}
 use Rattle.marker.specs.Closure.{Closure, held}
 use Rattle.marker.specs.Invariant.{DirtyPageInvariant, CarriedPageInvariant, IsSettled, IsTargetMarked, IsAwaited}
@@ -29,10 +29,6 @@ pub record Extends (found : ℕ → Option Found) (old new : Marking) : Type 0 w
   pub fresh : (f : Found) → found f.base ≡ Some f → IsMarked new f.base → IsMarked old f.base ⊎ (f.kind ≡ Normal → (i : ℕ) → i < f.len → IsAwaited new f i)
   pub dirtied : (p : ℕ) → Has new.dirty p → Has old.dirty p ⊎ ((f : Found) × IsNewlyMarked found old new f × Covers f p)
   pub cost : cost found new ≤ cost found old
-
--- marks of objects stay such where only marks of objects come
-pub objects_marked : (found : ℕ → Option Found) (a b : Marking) → AreMarksObjects found a → ((k : ℕ) → Has b.marks k → Has a.marks k ⊎ IsObjectGranule found k) → AreMarksObjects found b
-objects_marked found a b before grown k h = ⊎_elim (before k) (λ o. o) (grown k h)
 
 pub below_refl : (s : List Entry) → IsBelow s s
 below_refl s = ([], sym (append-nil s))

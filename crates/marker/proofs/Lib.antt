@@ -4,6 +4,7 @@ pub mod Beside
 pub mod Costs
 pub mod Spreads
 pub mod MarkWord
+pub mod Objects
 pub mod Words
 pub mod Known
 pub mod Dropping

@@ -7,7 +7,7 @@ use Rattle.std.proofs.lemmas.List.Sums.{sum_by-append}
 use Rattle.std.proofs.lemmas.List.Elements.{Contains-append_left, Contains-append_right, Contains-push_cases}
 use Rattle.std.proofs.lemmas.List.{length_push}
 use Rattle.words.specs.declared.class.Kind.TheVariants.{Normal, PointerFree}
-use Rattle.words.specs.declared.limits.TheConstants.{FIRST_ADDRESS, GRANULE_BYTES, MARK_STACK_ENTRIES, PAGE_BYTES, PAGE_GRANULES, PAGE_WORDS}
+use Rattle.words.specs.declared.limits.TheConstants.{FIRST_ADDRESS, MARK_STACK_ENTRIES, PAGE_BYTES, PAGE_GRANULES, PAGE_WORDS}
 use Rattle.words.specs.Bits.{Has}
 use Rattle.words.specs.Layout.{granule, page_of}
 use Rattle.block_map.specs.declared.found.Found.{Found}
@@ -15,7 +15,7 @@ use Rattle.block_map.specs.Objects.{IsMap}
 use Rattle.block_map.specs.States.{PageState}
 use Rattle.block_map.specs.FoundIn.{found_in, IsLawful}
 use Rattle.marker.specs.declared.entry.Entry.{Entry}
-use Rattle.marker.specs.Marking.{Marking, IsConsistent, IsMarked, AreMarksObjects, IsOutside, word_address, last_page, pages_of, Covers}
+use Rattle.marker.specs.Marking.{Marking, IsConsistent, IsMarked, IsOutside, word_address, last_page, pages_of, Covers}
 use Rattle.marker.specs.Work.{left, left_of, page_words, unmarked, unmarked_from, span, cost}
 use Rattle.marker.specs.Invariant.{IsAwaited}
 use Rattle.marker.specs.Growth.{IsNoStray, TellsStray, MarksWord, MarksObject, Awaits, IsDirtied, entry_of, nothing, object, pointer_free, pushed, dirtied}
@@ -70,20 +70,7 @@ word_outside states bytes w m lawful b fits far = word_none (found_in states) w 
 pub word_beyond : (states : List PageState) (bytes w : ℕ) (m : Marking) → IsLawful states → bytes ≡ PAGE_BYTES * length states → IsOutside bytes w → MarksWord (found_in states) w m m
 word_beyond states bytes w m lawful b out = word_none (found_in states) w m (outside (length states) (found_in states) w lawful.map (subst (λ (n : ℕ). IsOutside n w) b out))
 
--- The word is the first address of a marked granule, and each mark is an object's: it points into that object.
-pub marked_base : (pages : ℕ) (found : ℕ → Option Found) (m : Marking) (w : ℕ) → IsMap pages found → AreMarksObjects found m → FIRST_ADDRESS ≤ w → w % GRANULE_BYTES ≡ 0 → Has m.marks (granule w)
-    → (f : Found) × (found w ≡ Some f) × IsMarked m f.base
-marked_base pages found m w map objects from aligned has =
-    let o = objects (granule w) has in
-    let p = map.placed _ o.object o.is in
-    let a = p.aligned in let b = p.above in let g = o.first in
-    let base : o.object.base ≡ w = omega (arith, a, b, g, from, aligned) in (
-      o.object,
-      subst (λ (v : ℕ). found v ≡ Some o.object) base o.is,
-      subst (λ (k : ℕ). Has m.marks k) (sym o.first) has,
-    )
-
--- nothing is done with it, and it isn't stray
+-- A marked object is pointed into: nothing is done, and the word isn't stray.
 pub word_marked : (found : ℕ → Option Found) (m : Marking) (w : ℕ) → (f : Found) × (found w ≡ Some f) × IsMarked m f.base → MarksWord found w m m
 word_marked found m w (f, is, marked) = nothing (λ g e. subst (λ (h : Found). IsMarked m h.base) (same_Some f g (sym is ∙ e)) marked) refl
 

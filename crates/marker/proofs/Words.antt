@@ -15,7 +15,7 @@ use Rattle.pages.specs.Memory.{word_index, word_at}
 use Rattle.block_map.specs.declared.found.Found.{Found}
 use Rattle.block_map.specs.Objects.{IsMap, IsPlaced}
 use Rattle.marker.specs.declared.entry.Entry.{Entry}
-use Rattle.marker.specs.Marking.{Marking, AreMarksObjects, IsConsistent, IsMarked, IsOutside, StaysDirty, with_carried, with_current, word_address}
+use Rattle.marker.specs.Marking.{Marking, IsConsistent, IsMarked, IsOutside, StaysDirty, with_carried, with_current, word_address}
 use Rattle.marker.specs.Work.{cost}
 use Rattle.marker.specs.Closure.{Closure, held, root, word}
 use Rattle.marker.specs.Invariant.{IsTargetMarked, AreRootsMarked}
@@ -348,10 +348,3 @@ run_page pages words f first n found bytes ws b placed fits e tells is =
     let s = tells.some is in
     let y = word_of words f first n s.0 (subst (λ l. Contains l s.0) e s.1) in
     let from = y.1 in let below = y.2 in let p = placed.below in let q = placed.above in omega arith
-
--- each mark stays that of an object
-pub objects_word : (pages : ℕ) (found : ℕ → Option Found) → IsMap pages found → (w : ℕ) (old new : Marking) → AreMarksObjects found old → MarksWord found w old new → AreMarksObjects found new
-objects_word pages found map w old new objects (nothing t e) = subst (AreMarksObjects found) (sym e) objects
-objects_word pages found map w old new objects (object f is x) = λ k h.
-    ⊎_elim (λ o. objects k o) (λ (s : k ≡ granule f.base). record { object = f; is = at_base pages found map w f is; first = sym s })
-    (has_set_back old.marks (granule f.base) k (subst (λ r. Has r k) x.marks h))

@@ -5,7 +5,7 @@ ghost use Rattle.block_map.specs.FoundIn.{found_in, IsLawful};
 ghost use Rattle.marker.specs.Closure.{AreClosed};
 ghost use Rattle.marker.specs.Growth.{Traces};
 ghost use Rattle.marker.specs.Invariant.{DirtyPageInvariant};
-ghost use Rattle.marker.specs.Marking.{IsDone};
+ghost use Rattle.marker.specs.Marking.{AreMarksObjects, IsDone};
 ghost use Rattle.marker.specs.Work.{dirty_pages, newly_pages, entry_words};
 
 use super::ObjectSpace;
@@ -28,6 +28,7 @@ impl ObjectSpace {
     // see.
     pub(super) fn close(&self, marker: &mut Marker, roots: &[u64]) -> Count
         requires pages { length marker.old.dirty ≡ length self.now.states }
+        requires objects { AreMarksObjects (found_in self.now.states) marker.old }
         requires invariant { DirtyPageInvariant (found_in self.now.states) self.now.words marker.old }
         ensures closure { AreClosed (found_in self.now.states) self.now.words roots.now marker.old marker.new }
         ensures done { IsDone marker.new }
@@ -50,6 +51,7 @@ impl ObjectSpace {
         gate: &G,
     )
         requires pages { length marker.old.dirty ≡ length self.now.states }
+        requires objects { AreMarksObjects (found_in self.now.states) marker.old }
         requires invariant { DirtyPageInvariant (found_in self.now.states) self.now.words marker.old }
         ensures closure { AreClosed (found_in self.now.states) self.now.words roots.now marker.old marker.new }
         ensures done { IsDone marker.new }

@@ -1,7 +1,7 @@
 //! What the marker does with the objects: it reads them by the map and the memory.
 ghost use Rattle.std.specs.Prelude.{◌≡◌, ℕ, ◌<◌, ◌≤◌, ◌↔◌, [], ◌∷◌, true, false, length, MatchOption};
 ghost use Rattle.block_map.specs.FoundIn.{found_in, IsLawful};
-ghost use Rattle.marker.specs.Marking.{IsEmpty, IsClean, StaysDirty};
+ghost use Rattle.marker.specs.Marking.{AreMarksObjects, IsEmpty, IsClean, StaysDirty};
 ghost use Rattle.marker.specs.Invariant.{AreRootsMarked};
 ghost use Rattle.pages.specs.Reads.{AreMoments};
 ghost use Rattle.marker.specs.Growth.{MarksWords, Traces};
@@ -19,6 +19,7 @@ impl ObjectSpace {
     /// Marks what root words point into.
     pub fn mark_roots(&self, marker: &mut Marker, roots: &[u64])
         requires pages { length marker.old.dirty ≡ length self.now.states }
+        requires objects { AreMarksObjects (found_in self.now.states) marker.old }
         ensures traces { Traces (found_in self.now.states) self.now.words roots.now marker.old marker.new }
         ensures roots { AreRootsMarked (found_in self.now.states) roots.now marker.new }
         ensures marks { MarksWords (found_in self.now.states) marker.old roots.now marker.new }
@@ -31,6 +32,7 @@ impl ObjectSpace {
     /// Reads at most so many words of entries.
     pub fn mark(&self, marker: &mut Marker, budget: u64) -> Marked
         requires pages { length marker.old.dirty ≡ length self.now.states }
+        requires objects { AreMarksObjects (found_in self.now.states) marker.old }
         ensures takes { Takes (found_in self.now.states) (self.now.words ∷ []) marker.old result.read marker.new }
         ensures traces { Traces (found_in self.now.states) self.now.words [] marker.old marker.new }
         ensures read { result.read ≤ budget }
@@ -48,6 +50,7 @@ impl ObjectSpace {
     /// Reads at most so many words of entries, while others write on dirty pages: the memory is read at these moments.
     pub fn mark_beside(&self, marker: &mut Marker, budget: u64, moments: Moments) -> Marked
         requires pages { length marker.old.dirty ≡ length self.now.states }
+        requires objects { AreMarksObjects (found_in self.now.states) marker.old }
         requires moments { AreMoments self.now.words moments.list }
         requires beside { AreBeside (found_in self.now.states) marker.old.dirty moments.list }
         ensures traces { TracesIn (found_in self.now.states) moments.list marker.old marker.new }
@@ -66,6 +69,7 @@ impl ObjectSpace {
     /// these moments.
     pub fn retrace_beside(&self, marker: &mut Marker, moments: Moments) -> Option<PageNo>
         requires pages { length marker.old.dirty ≡ length self.now.states }
+        requires objects { AreMarksObjects (found_in self.now.states) marker.old }
         requires moments { AreMoments self.now.words moments.list }
         requires beside { AreBeside (found_in self.now.states) marker.old.dirty moments.list }
         requires still { (p : ℕ) → IsFirstFrom marker.old.dirty 0 p → IsStill (found_in self.now.states) self.now.words moments.list p }
@@ -82,6 +86,7 @@ impl ObjectSpace {
     /// pages: the memory is read at these moments.
     pub fn retrace_page_beside(&self, marker: &mut Marker, page: PageNo, moments: Moments) -> bool
         requires pages { length marker.old.dirty ≡ length self.now.states }
+        requires objects { AreMarksObjects (found_in self.now.states) marker.old }
         requires moments { AreMoments self.now.words moments.list }
         requires beside { AreBeside (found_in self.now.states) marker.old.dirty moments.list }
         requires still { Has marker.old.dirty page → IsStill (found_in self.now.states) self.now.words moments.list page }
@@ -98,6 +103,7 @@ impl ObjectSpace {
     /// Reads the lowest dirty page again.
     pub fn retrace(&self, marker: &mut Marker) -> Option<PageNo>
         requires pages { length marker.old.dirty ≡ length self.now.states }
+        requires objects { AreMarksObjects (found_in self.now.states) marker.old }
         ensures page { MatchOption result (IsClean marker.old × (marker.new ≡ marker.old)) (λ p. RetracesLowest (found_in self.now.states) self.now.words p marker.old marker.new) }
         ensures traces { Traces (found_in self.now.states) self.now.words [] marker.old marker.new }
         ensures lawful { IsLawful self.now.states }

@@ -1,6 +1,6 @@
 use Rattle.std.proofs.Common.{[], ◌∷◌, length, ◌∙◌, refl, sym, ap, arith}
 use Rattle.block_map.specs.FoundIn.{found_in}
-use Rattle.marker.proofs.Growing.{objects_marked}
+use Rattle.marker.proofs.Objects.{objects_marked}
 use Rattle.final_pause.proofs.Closing.{Closes, closes_step, closed, closed_reads}
 use Rattle.final_pause.proofs.alone.close_marks.Goals as goal
 use Rattle.final_pause.proofs.alone.close_marks.Goals.{After-mark_on}

@@ -1,6 +1,7 @@
 use Rattle.std.proofs.Common.{[], ◌∷◌, length, ◌∙◌, sym, ap, arith}
 use Rattle.block_map.specs.FoundIn.{found_in}
-use Rattle.marker.proofs.Growing.{objects_marked, traces_refl}
+use Rattle.marker.proofs.Growing.{traces_refl}
+use Rattle.marker.proofs.Objects.{objects_marked}
 use Rattle.final_pause.proofs.Closing.{Closes, closes_step, closed}
 use Rattle.final_pause.proofs.before.mark_before_helpers.Goals as goal
 use Rattle.final_pause.proofs.before.mark_before_helpers.Goals.{After-mark_on}

@@ -5,7 +5,8 @@ use Rattle.marker.specs.Invariant.{DirtyPageInvariant}
 use Rattle.marker.specs.Closure.{Closure}
 use Rattle.marker.specs.Growth.{Traces}
 use Rattle.marker.proofs.Closures.{closure_same}
-use Rattle.marker.proofs.Growing.{objects_marked, traces_trans}
+use Rattle.marker.proofs.Growing.{traces_trans}
+use Rattle.marker.proofs.Objects.{objects_marked}
 use Rattle.final_pause.proofs.parallel.close_marks_with.Goals as goal
 use Rattle.final_pause.proofs.parallel.close_marks_with.Given.{Over}
 use Rattle.final_pause.proofs.parallel.close_marks_with.Goals.{After-mark_with_helpers}

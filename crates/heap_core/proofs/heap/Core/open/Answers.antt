@@ -3,7 +3,8 @@ use Rattle.std.proofs.Common.{None, [], subst, true, refl, sym, ap, ◌∙◌}
 use Rattle.std.proofs.lemmas.Bool.{true≢false}
 use Rattle.heap_spec.specs.Heap.{opening_with}
 use Rattle.heap_spec.proofs.Calls.{opening_with_is}
-use Rattle.heap_core.proofs.Tracing.{fresh_objects, traced_ended}
+use Rattle.marker.proofs.Objects.{blank_objects}
+use Rattle.heap_core.proofs.Tracing.{traced_ended}
 use Rattle.roots.specs.Roots.{RootSet}
 use Rattle.heap_core.proofs.heap.Core.open.Goals as goal
 
@@ -17,7 +18,7 @@ returns c = (
       empty = c.laws.ensures.empty;
       lawful = c.laws.ensures.lawful;
       laid = c.laws.ensures.laid;
-      traced = let pages = (c.in_ok-objects.ensures.1.1 (λ _. true)).pages in let blank = c.in_ok-marker.ensures.1 in traced_ended _ _ _ _ (blank.dirty.size ∙ pages) (fresh_objects _ _ _ blank) (λ is. absurd (true≢false is));
+      traced = let pages = (c.in_ok-objects.ensures.1.1 (λ _. true)).pages in let blank = c.in_ok-marker.ensures.1 in traced_ended _ _ _ _ (blank.dirty.size ∙ pages) (blank_objects _ _ _ blank) (λ is. absurd (true≢false is));
     };
     stands = record {
       mutators = sym (ap (λ (r : RootSet). r.mutators) c.in_ok-roots.ensures);
@@ -39,7 +40,7 @@ invariant_of-result c =
     let pages = (c.in_ok-objects.ensures.1.1 (λ _. true)).pages in
     let blank = c.in_ok-marker.ensures.1 in
     record {
-      traced = traced_ended _ _ _ _ (blank.dirty.size ∙ pages) (fresh_objects _ _ _ blank) (λ is. absurd (true≢false is));
+      traced = traced_ended _ _ _ _ (blank.dirty.size ∙ pages) (blank_objects _ _ _ blank) (λ is. absurd (true≢false is));
       sound = (
         opening_with c.args.limits.pages c.args.limits.request_words,
         record {

@@ -1,7 +1,7 @@
 use Rattle.std.proofs.Common.{◌∙◌, length, sym, subst}
 use Rattle.block_map.specs.Objects.{IsPlaced}
 use Rattle.block_map.specs.FoundIn.{found_in}
-use Rattle.marker.proofs.Words.{objects_word}
+use Rattle.marker.proofs.Objects.{objects_word}
 use Rattle.marker.proofs.marker.Marker.mark_elsewhere.Goals as goal
 
 pub mark_found-requires : goal.mark_found-requires

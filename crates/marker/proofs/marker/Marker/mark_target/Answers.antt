@@ -2,8 +2,8 @@ use Rattle.std.proofs.Common.{◌*◌, ◌∙◌, length, sym, subst}
 use Rattle.words.specs.declared.limits.TheConstants.{PAGE_BYTES}
 use Rattle.block_map.specs.Objects.{IsPlaced}
 use Rattle.block_map.specs.FoundIn.{found_in}
-use Rattle.marker.proofs.MarkWord.{marked_base, tells_marked, word_marked}
-use Rattle.marker.proofs.Words.{objects_word}
+use Rattle.marker.proofs.MarkWord.{tells_marked, word_marked}
+use Rattle.marker.proofs.Objects.{marked_base, objects_word}
 use Rattle.marker.proofs.marker.Marker.mark_target.Goals as goal
 
 pub mark_found-requires : goal.mark_found-requires

@@ -1,4 +1,4 @@
-use Rattle.marker.proofs.Growing.{objects_marked}
+use Rattle.marker.proofs.Objects.{objects_marked}
 use Rattle.object_space.proofs.Forgetting.{forgets_lazily, objects_forgotten, carried_lazily}
 use Rattle.object_space.proofs.space.ObjectSpace.finish.Goals as goal
 
