@@ -24,8 +24,8 @@ fn time_marking(name: &str, map: &[Page], memory: &[u64], count: u64) {
     let mut least = u128::MAX;
     let mut read = 0;
     for _ in 0..ROUNDS {
-        marker.begin();
         let start = Instant::now();
+        marker.begin();
         read = marker.mark(black_box(map), black_box(memory), black_box(&[START]));
         least = least.min(start.elapsed().as_nanos());
     }

