@@ -1,11 +1,10 @@
 -- What is closed and then forgotten.
-use Rattle.std.proofs.Common.{length, ◌≡◌, ℕ, ◌⊎◌, ⊎_elim, subst, sym, refl, ◌∙◌, Bool, true, false, List, get_or, Option}
+use Rattle.std.proofs.Common.{length, ◌≡◌, ℕ, subst, sym, refl, ◌∙◌, Bool, true, false, List, get_or}
 use Rattle.std.proofs.lemmas.Bool.{false≢true}
 use Rattle.words.specs.Bits.{Has}
 use Rattle.words.specs.Layout.{granule}
-use Rattle.block_map.specs.declared.found.Found.{Found}
 use Rattle.block_map.specs.FoundIn.{found_in}
-use Rattle.marker.specs.Marking.{Marking, IsMarked, IsObjectGranule, AreMarksObjects}
+use Rattle.marker.specs.Marking.{Marking, IsMarked, AreMarksObjects}
 use Rattle.marker.specs.Closure.{AreClosed}
 use Rattle.marker.specs.Invariant.{CarriedPageInvariant}
 use Rattle.marker.proofs.Closures.{at_base}

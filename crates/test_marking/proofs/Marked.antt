@@ -12,6 +12,7 @@ use Rattle.marker.specs.Marking.{Marking}
 use Rattle.marker.specs.Growth.{Traces}
 use Rattle.marker.specs.Mutations.{HasNoNew, KeepsWords}
 use Rattle.marker.proofs.Mutating.{free_traced}
+use Rattle.marker.proofs.Objects.{objects_marked}
 use Rattle.test_marking.specs.Marked.{IsOfOneHeap}
 
 -- the marker goes on
@@ -19,15 +20,17 @@ pub traced : (states : List PageState) (words roots : List ℕ) (old new : Marki
 traced states words roots old new is t = record {
   pages = t.dirty_len ∙ is.pages;
   listed = is.listed;
+  objects = objects_marked (found_in states) old new is.objects t.objects;
   invariant = t.keeps is.invariant;
 }
 
--- objects go
-pub lessened : (states states' : List PageState) (words words' : List ℕ) (m : Marking) → length states' ≡ length states → HasNoNew (found_in states) (found_in states') → KeepsWords (found_in states') words words' → AreListed words' states'
+-- pages are cut, and objects stay
+pub recut : (states states' : List PageState) (words words' : List ℕ) (m : Marking) → length states' ≡ length states → ((w : ℕ) → found_in states' w ≡ found_in states w) → HasNoNew (found_in states) (found_in states') → KeepsWords (found_in states') words words' → AreListed words' states'
     → IsOfOneHeap states words m → IsOfOneHeap states' words' m
-lessened states states' words words' m size less same listed is = record {
+recut states states' words words' m size stays less same listed is = record {
   pages = is.pages ∙ sym size;
   listed = listed;
+  objects = λ k h. let o = is.objects k h in record { object = o.object; is = stays o.object.base ∙ o.is; first = o.first };
   invariant = free_traced (found_in states) (found_in states') words words' m less same is.invariant;
 }
 

@@ -7,6 +7,7 @@ ghost use Rattle.block_map.specs.Objects.{large_object};
 ghost use Rattle.block_map.specs.FoundIn.{found_in};
 ghost use Rattle.block_map.specs.Listed.{AreListed};
 ghost use Rattle.marker.specs.Invariant.{DirtyPageInvariant};
+ghost use Rattle.marker.specs.Marking.{AreMarksObjects};
 
 use block_map::{BlockMap, Found};
 use marker::Marker;
@@ -37,6 +38,7 @@ pub(crate) fn receive(map: &BlockMap, memory: &mut Memory, marker: &mut Marker, 
     requires pages { length marker.old.dirty ≡ length map.now }
     requires listed { AreListed memory.old map.now }
     ensures keeps { (before : ℕ → Option Found) → IsAdded before (found_in map.now) found → DirtyPageInvariant before memory.old marker.old → DirtyPageInvariant (found_in map.now) memory.new marker.new }
+    ensures objects { (before : ℕ → Option Found) → IsAdded before (found_in map.now) found → AreMarksObjects before marker.old → AreMarksObjects (found_in map.now) marker.new }
     ensures pages { length marker.new.dirty ≡ length map.now }
     ensures listed { AreListed memory.new map.now }
 {

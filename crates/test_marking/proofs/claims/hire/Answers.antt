@@ -1,8 +1,8 @@
-use Rattle.std.proofs.Common.{◌≡◌, ℕ, ◌+◌, length, sym, ap, subst, ◌∙◌, rules, arith}
+use Rattle.std.proofs.Common.{◌≡◌, ◌+◌, length, sym, subst, rules}
 use Rattle.mark_bits.specs.declared.claimer_view.ClaimerView.{ClaimerView}
 use Rattle.mark_bits.specs.Claims.{HasPart}
 use Rattle.mark_bits.specs.Tables.{view}
-use Rattle.mark_bits.proofs.Halves.{part_kept, part_cut}
+use Rattle.mark_bits.proofs.Halves.{part_cut}
 use Rattle.test_marking.specs.declared.claims.Helper.{Helper}
 use Rattle.test_marking.specs.Crew.{IsReady}
 use Rattle.test_marking.proofs.Crew.{each_push}

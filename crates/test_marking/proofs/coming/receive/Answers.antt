@@ -1,7 +1,7 @@
 use Rattle.block_map.specs.FoundIn.{found_in}
 use Rattle.block_map.specs.Objects.{IsPlaced}
 use Rattle.block_map.proofs.Unread.{listed_zeroed}
-use Rattle.std.proofs.Common.{length, refl, ◌∙◌, arith}
+use Rattle.std.proofs.Common.{length, refl, arith}
 use Rattle.test_marking.proofs.Newcomers.{placed_in, zeroed, others_kept}
 use Rattle.marker.proofs.Closures.{marks_of}
 use Rattle.test_marking.proofs.coming.receive.Goals as goal
@@ -26,6 +26,9 @@ returns-clause-keeps c before added holds =
     let p = placed (goal.at.returns-clause-keeps c).After-len in
     c.allocated.ensures.keeps (length c.args.map.now) before (found_in c.args.map.now) _ _ c.args.found refl lawful.map c.requires.object added
     (others_kept _ before _ _ _ _ lawful.map c.requires.object added c.zero.ensures) (zeroed _ _ _ _ p c.zero.ensures) holds
+
+pub returns-clause-objects : goal.returns-clause-objects
+returns-clause-objects c before added objects = c.allocated.ensures.objects before (found_in c.args.map.now) c.args.found refl c.requires.object added objects
 
 pub returns-clause-listed : goal.returns-clause-listed
 returns-clause-listed c = listed_zeroed _ c.args.map.now c.len.ensures.laid _ c.args.found c.requires.object c.zero.ensures c.requires.listed
