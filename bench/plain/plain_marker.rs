@@ -10,8 +10,13 @@ const ENTRIES: usize = 256;
 // A row of fewer words is read one by one.
 const FEW: usize = 16;
 
-// So many objects are begun together, unless more entries wait than `CROWDED`.
+// So many entries at most are looked up before the first of them is read, and one for each so many words that may be read.
+const LOOKS: u64 = 64;
+const WORDS_A_LOOK: u64 = 8;
+
+// So many objects are begun together, where `WIDE` entries are known to have words, and no more wait than `CROWDED`.
 const TOGETHER: usize = 8;
+const WIDE: usize = 2 * TOGETHER;
 const CROWDED: usize = ENTRIES - 4 * TOGETHER;
 
 // An object that was taken off the stack, and its first two words.
@@ -108,6 +113,9 @@ impl Marker {
     // Most words point into no object, so that the loop over words is to hold the test of the range and not this.
     #[inline(never)]
     fn mark_target(&mut self, map: &[Page], word: u64) -> bool {
+        if word % 16 == 0 && is_set(&self.marks, granule(word)) {
+            return false;
+        }
         let Some(found) = find(map, word) else {
             return true;
         };
@@ -168,11 +176,28 @@ impl Marker {
         }
     }
 
-    fn live(&self, map: &[Page]) -> Option<Found> {
-        let (base, next) = self.current?;
+    // The object of which an entry has words left.
+    fn unread(&self, map: &[Page], (base, next): (u64, u32)) -> Option<Found> {
         let found = find(map, base)?;
-        let is_live = found.base == base && found.kind == Kind::Normal && next < found.len && self.is_marked(base);
-        is_live.then_some(found)
+        let is_unread = found.base == base && found.kind == Kind::Normal && next < found.len && self.is_marked(base);
+        is_unread.then_some(found)
+    }
+
+    fn live(&self, map: &[Page]) -> Option<Found> {
+        self.unread(map, self.current?)
+    }
+
+    // From which number on the entries that wait are known to have a word: from `known` on they are, and below some are looked up.
+    #[inline(never)]
+    fn look_below(&self, map: &[Page], known: usize, most: u64) -> usize {
+        let mut lowest = known;
+        for _ in 0..(most / WORDS_A_LOOK).min(LOOKS) {
+            if lowest == 0 || self.unread(map, self.stack[lowest - 1]).is_none() {
+                return lowest;
+            }
+            lowest -= 1;
+        }
+        lowest
     }
 
     #[inline]
@@ -212,7 +237,7 @@ impl Marker {
             if read == budget {
                 return read;
             }
-            known = known.min(self.len);
+            known = self.look_below(map, known.min(self.len), budget - read);
             read += self.read_off(map, heap_bytes, memory, found, known, budget - read);
         }
         read
@@ -246,7 +271,7 @@ impl Marker {
     fn read_wholes(&mut self, map: &[Page], heap_bytes: u64, memory: &[u64], known: usize, most: u64) -> u64 {
         let mut read = 0;
         loop {
-            let more = if self.len < known + TOGETHER || self.len > CROWDED {
+            let more = if self.len < known + WIDE || self.len > CROWDED {
                 self.read_top(map, heap_bytes, memory, known, most - read)
             } else {
                 self.read_together(map, heap_bytes, memory, known, most - read)
