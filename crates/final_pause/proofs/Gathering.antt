@@ -30,7 +30,7 @@ use Rattle.final_pause.specs.declared.helper.Helper.{Helper}
 use Rattle.final_pause.specs.Pauses.{PauseView}
 use Rattle.final_pause.specs.Helping.{found, word_in, turn_of, IsTargetKnown, IsWordRead}
 use Rattle.final_pause.specs.Dealing.{rank}
-use Rattle.final_pause.specs.Serving.{IsReachable, IsEntryRead, IsShareRead, HasServed}
+use Rattle.final_pause.specs.Serving.{IsReachable, IsEntryRead, IsShareRead, HasServed, turn_number}
 use Rattle.final_pause.specs.Gathering.{AreNumbered, HasGathered}
 use Rattle.final_pause.specs.Rounds.{DirtiesNew}
 use Rattle.final_pause.proofs.Knowing.{none_in}
@@ -120,7 +120,7 @@ module _ {p : PauseView} (first : Claimer) (dirty carried : List Bool) (new : Ma
       let page : ℕ = page_of (word_address f i) in
       let inside : page < length p.map = (let l = has_inside old.dirty page d in omega (arith, l, pages)) in
       let above = (map.placed f.base f o).above in
-      let turn : ℕ = rank old.dirty page + granule f.base / 16 in
+      let turn : ℕ = turn_number (rank old.dirty page) (granule f.base) in
       let place = g.shares (turn % p.helpers) (omega arith) (mod-lt turn some) in
       place.pages page inside d f o n m refl i lt (omega (arith, above)) (omega (arith, above))
 

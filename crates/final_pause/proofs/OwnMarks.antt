@@ -1,14 +1,14 @@
 -- The bits of a word of marks that are a helper's.
 use Rattle.std.proofs.Common.{◌≡◌, ℕ, ◌+◌, ◌-◌, ◌*◌, ◌/◌, ◌%◌, ◌^◌, ◌<◌, ◌≤◌, ◌==◌, min, max, List, Bool, true, false, length, get_or, refl, sym, ap, subst, ◌∙◌, ⊎_elim, arith}
-use Rattle.std.specs.Prelude.{◌↔◌}
+use Rattle.std.specs.Prelude.{◌↔◌, nat_lt}
 use Rattle.std.specs.Int.{bit_at}
 use Rattle.std.specs.Int.RustNames.{bit_and, bit_or}
-use Rattle.std.proofs.lemmas.Bool.{agree_below_at, cases_eq, cases_lt, eqb-true, eqb-false, eq-eqb}
+use Rattle.std.proofs.lemmas.Bool.{agree_below_at, cases_eq, cases_lt, cond-true, cond-false, eqb-true, eqb-false, eq-eqb}
 use Rattle.std.proofs.lemmas.Nat.Bits.{bit_at-lt, bit_at-zero, bit_at_and, bit_at_or}
 use Rattle.std.proofs.Math.Nat.{mod-add-mod}
 use Rattle.words.specs.Bits.{Has, HasBit, bits}
 use Rattle.final_pause.specs.Pauses.{PauseView}
-use Rattle.final_pause.specs.Serving.{IsTurnAt, AreOwnMarks}
+use Rattle.final_pause.specs.Serving.{IsTurnAt, AreOwnMarks, turn_number}
 use Rattle.final_pause.proofs.Marked.{bits_of_word}
 
 -- the bits of each of the four turns of a word, tried one by one
@@ -19,6 +19,17 @@ turn_bit i k few lt =
     let tried = agree_below_at (λ n. bit_at (65535 * 2 ^ (16 * (n / 64)) % 2 ^ 64) (n % 64) == 1) (λ n. n % 64 / 16 == n / 64) 256 (64 * i + k) refl (omega (arith, few, lt)) in
     subst (λ (m : ℕ). (bit_at (65535 * 2 ^ (16 * m) % 2 ^ 64) k == 1) ≡ (k / 16 == m)) turn
     (subst (λ (b : ℕ). (bit_at (65535 * 2 ^ (16 * ((64 * i + k) / 64)) % 2 ^ 64) b == 1) ≡ (b / 16 == (64 * i + k) / 64)) bit tried)
+
+-- the bits of a word that has them all
+pub bit_of_all : (k : ℕ) → k < 64 → bit_at 18446744073709551615 k ≡ 1
+bit_of_all k lt = eqb-true _ _ (agree_below_at (λ n. bit_at 18446744073709551615 n == 1) (λ n. true) 64 k refl lt)
+
+-- the number of a page that is shared, and of another
+pub turn_shared : (number g : ℕ) → nat_lt number 256 ≡ true → turn_number number g ≡ number + g / 16
+turn_shared number g e = cond-true (nat_lt number 256) (number + g / 16) number e
+
+pub turn_whole : (number g : ℕ) → nat_lt number 256 ≡ false → turn_number number g ≡ number
+turn_whole number g e = cond-false (nat_lt number 256) (number + g / 16) number e
 
 -- the turn after one
 pub turn_next : (n helpers turn : ℕ) → turn ≡ n % helpers → (turn + 1) % helpers ≡ (n + 1) % helpers
@@ -69,7 +80,7 @@ module _ (p : PauseView) (place number j : ℕ) where
     }
 
     -- those of the bits that are set that have the turn
-    pub own_both : (mine : ℕ) → ((k : ℕ) → k < 64 → (bit_at mine k ≡ 1) ↔ ((number + (64 * j + k) / 16) % p.helpers ≡ place)) → AreOwnMarks p place number j (bit_and marks mine)
+    pub own_both : (mine : ℕ) → ((k : ℕ) → k < 64 → (bit_at mine k ≡ 1) ↔ (turn_number number (64 * j + k) % p.helpers ≡ place)) → AreOwnMarks p place number j (bit_and marks mine)
     own_both mine turns = record {
       own = λ k lt.
           let both : bit_at (bit_and marks mine) k ≡ min (bit_at marks k) (bit_at mine k) = bit_at_and marks mine k in

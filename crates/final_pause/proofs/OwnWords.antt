@@ -1,10 +1,11 @@
 -- A long object is read by where its words point.
 use Rattle.std.proofs.Common.{◌≡◌, ℕ, ◌+◌, ◌<◌, ◌≤◌, ◌==◌, Bool, List, [], ◌∷◌, true, false, Contains, refl, sym, ap, subst, ◌∙◌, inr, ⊎_elim, mod-lt, arith}
-use Rattle.std.specs.Prelude.{◌⊎◌, nat_lt}
+use Rattle.std.specs.Prelude.{◌⊎◌, nat_lt, ◌*◌, ◌/◌, ◌%◌}
+use Rattle.std.proofs.Math.Nat.{mul-le-mul_left}
 use Rattle.std.specs.List.{filter}
 use Rattle.std.proofs.lemmas.Bool.{cond-true, cond-false, cond_both, eq-eqb, ne_eqb, true≢false}
 use Rattle.std.proofs.lemmas.List.Elements.{All-contains, All-contains_itself, All-filter}
-use Rattle.words.specs.declared.limits.TheConstants.{PAGE_WORDS}
+use Rattle.words.specs.declared.limits.TheConstants.{PAGE_BYTES, PAGE_WORDS}
 use Rattle.words.specs.Layout.{page_of}
 use Rattle.mark_bits.specs.Tables.{IsOf}
 use Rattle.block_map.specs.declared.found.Found.{Found}
@@ -41,8 +42,14 @@ module _ (p : PauseView) where
   turn_short number f i e = cond-false (nat_lt PAGE_WORDS f.len) (span_turn p (word_in p f i)) (page_turn p number f i) e
 
   -- each turn is that of a helper
+  span_below : 0 < p.helpers → (w : ℕ) → span_turn p w < p.helpers
+  span_below some w =
+      let t : (w / (4 * PAGE_BYTES)) % 64 ≤ 63 = omega arith in
+      let most = mul-le-mul_left p.helpers t in
+      omega (arith, some, most)
+
   pub turn_below : 0 < p.helpers → (number : ℕ) (f : Found) (i : ℕ) → turn_of p number f i < p.helpers
-  turn_below some number f i = cond_both (nat_lt PAGE_WORDS f.len) (span_turn p (word_in p f i)) (page_turn p number f i) (λ t. t < p.helpers) (λ e. mod-lt _ some) (λ e. mod-lt _ some)
+  turn_below some number f i = cond_both (nat_lt PAGE_WORDS f.len) (span_turn p (word_in p f i)) (page_turn p number f i) (λ t. t < p.helpers) (λ e. span_below some (word_in p f i)) (λ e. mod-lt _ some)
 
   module _ (place w : ℕ) where
     -- a word that has the turn was visited

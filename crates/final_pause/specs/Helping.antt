@@ -25,9 +25,9 @@ found p = found_in p.map
 abbrev pub word_in : PauseView → Found → ℕ → ℕ
 word_in p f i = word_at p.memory (word_address f i)
 
--- the turn of a word by where it points: 8 KB of the heap, whose marks are 64 bytes, have one turn
+-- the turn of a word by where it points: of 64 spans of 16 KB in a row each helper has a part
 abbrev pub span_turn : PauseView → ℕ → ℕ
-span_turn p w = (w / (2 * PAGE_BYTES)) % p.helpers
+span_turn p w = (p.helpers * ((w / (4 * PAGE_BYTES)) % 64)) / 64
 
 -- the turn of the word i of an object by where it stands: by a number and its page, counted from the object's first
 abbrev pub page_turn : PauseView → ℕ → Found → ℕ → ℕ

@@ -1,5 +1,5 @@
 -- A helper at work and at its end.
-use Rattle.std.specs.Prelude.{◌≡◌, ℕ, ◌+◌, ◌*◌, ◌/◌, ◌%◌, ◌<◌, ◌≤◌, ◌↔◌, Bool, List, [], length, slice_index_or, slice_index, Contains, Some, ◌⊎◌}
+use Rattle.std.specs.Prelude.{◌≡◌, ℕ, ◌+◌, ◌*◌, ◌/◌, ◌%◌, ◌<◌, ◌≤◌, ◌↔◌, Bool, List, [], length, slice_index_or, slice_index, Contains, Some, ◌⊎◌, nat_lt, if◌then◌else◌}
 use Rattle.std.specs.Int.{bit_at}
 use Rattle.words.specs.declared.class.Kind.TheVariants.{Normal}
 use Rattle.words.specs.Bits.{Has, IsClear}
@@ -72,9 +72,14 @@ AreRootsRead p v place n = (i : ℕ) → i < n → i % p.helpers ≡ place → I
 abbrev pub AreEntriesRead : PauseView → ClaimerView → List Bool → ℕ → ℕ → Type 0
 AreEntriesRead p v carried place n = (i : ℕ) (d : Entry) → i < n → IsEntryRead p v carried place i (slice_index_or (entries p.marker) i d)
 
--- The turn of what begins at a granule, on the dirty page of a number, is the place's. What begins within 256 bytes has one turn.
+-- The number by which it is told whose turn it is: on the first 256 dirty pages what begins within 256 bytes has one, and each further
+-- page has one.
+abbrev pub turn_number : ℕ → ℕ → ℕ
+turn_number number g = if nat_lt number 256 then number + g / 16 else number
+
+-- the turn of what begins at a granule, on the dirty page of a number, is the place's
 abbrev pub IsTurnAt : PauseView → ℕ → ℕ → ℕ → Type 0
-IsTurnAt p place number g = (number + g / 16) % p.helpers ≡ place
+IsTurnAt p place number g = turn_number number g % p.helpers ≡ place
 
 -- the turn of an object on the dirty page of a number is the place's
 abbrev pub IsTurn : PauseView → ℕ → ℕ → Found → Type 0

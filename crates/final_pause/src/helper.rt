@@ -64,9 +64,9 @@ pub(crate) fn claim<G: Gate>(
     won
 }
 
-// Sees to it that the words of an object that the helper won are read: it waits, or where there is no room, the pages that it
-// covers become dirty.
-pub(crate) fn queue(helper: &mut Helper, found: Found)
+// Sees to it that the words of an object that the helper won are read: it waits, or where it isn't to or there is no room, the
+// pages that it covers become dirty.
+pub(crate) fn queue(helper: &mut Helper, found: Found, may_wait: bool)
     requires placed { IsPlaced (length helper.old.dirty) found }
     requires small { length helper.old.dirty ≤ MOST_PAGES }
     ensures { QueuesObject found helper.old helper.new }
@@ -74,9 +74,10 @@ pub(crate) fn queue(helper: &mut Helper, found: Found)
     if found.kind == Kind::PointerFree {
         return;
     }
-    if !helper.waiting.put(found.base) {
-        put_off(helper, found);
+    if may_wait && helper.waiting.put(found.base) {
+        return;
     }
+    put_off(helper, found);
 }
 
 // Leaves the words of an object that the helper won to the pages that it covers, which become dirty.

@@ -2,7 +2,7 @@
 //!
 //! They are numbered from the first one on. Of the page of a number a helper reads the objects of which that number and that of the 256
 //! bytes in which the object begins are together its place, modulo the number of helpers. So the parts are even, however few pages there
-//! are.
+//! are. Of the pages past the first 256 it reads those of which the number alone is its place (`turns.rt`).
 //!
 //! A helper reads of a dirty page the objects that were marked before the helpers started: whoever wins an object after that
 //! sees to its words himself, wherever it lies. So the marks that are asked here are the marker's own, which nobody changes
@@ -201,6 +201,9 @@ impl<'a> Pause<'a> {
     {
         if !self.marker.dirty_pages().is_dirty(page) {
             return number;
+        }
+        if self.is_others(helper, number) {
+            return number + 1;
         }
         self.read_page(gate, helper, page, number);
         self.make_room(gate, helper);

@@ -65,15 +65,21 @@ impl<'a> Pause<'a> {
         ensures stray { TellsStray (found_in self.now.map.now) (bytes_of self.now.marker.now) (word ∷ []) result }
     {
         if self.is_inside(word) {
-            self.visit_target(gate, helper, word)
+            self.visit_target(gate, helper, word, true)
         } else {
             false
         }
     }
 
-    /// The same of a word in the heap's range.
+    /// The same of a word in the heap's range. The object is left to its pages where it isn't to wait.
     #[inline(never)]
-    pub(crate) fn visit_target<G: Gate>(&self, gate: &G, helper: &mut Helper, word: u64) -> bool
+    pub(crate) fn visit_target<G: Gate>(
+        &self,
+        gate: &G,
+        helper: &mut Helper,
+        word: u64,
+        may_wait: bool,
+    ) -> bool
         requires helper { IsHelperOf (pause_view self.now) helper.old }
         requires inside { (FIRST_ADDRESS ≤ word) × (word < FIRST_ADDRESS + bytes_of self.now.marker.now) }
         ensures visits { Visits (pause_view self.now) word helper.old helper.new }
@@ -88,7 +94,7 @@ impl<'a> Pause<'a> {
             return false;
         }
         if claim(self.table, gate, helper, granule) {
-            queue(helper, found);
+            queue(helper, found, may_wait);
         }
         false
     }

@@ -2,8 +2,12 @@
 //!
 //! A claim is slow where another processor has just changed marks in the same line of memory. What a long object points at lies
 //! anywhere, so helpers that read a part of its words each would take the lines from one another all the time. So the heap is cut into
-//! spans whose marks fill a line, and each span is one helper's: of all the object's words it visits those that point into its own.
-ghost use Rattle.std.specs.Prelude.{◌≡◌, ℕ, ◌+◌, ◌<◌, ◌≤◌, ◌⊎◌, [], ◌∷◌, true, false};
+//! spans, and each span is one helper's: of all the object's words it visits those that point into its own. The spans of a helper stand
+//! in a row, since a row of marks needn't begin where a line does, so that two neighbours may have a line of marks in common.
+//!
+//! What such an object leads to lies in random order. Where there is a round after this one, it is left to its pages, which the next
+//! round reads in the order of memory.
+ghost use Rattle.std.specs.Prelude.{◌≡◌, ℕ, ◌+◌, ◌*◌, ◌/◌, ◌%◌, ◌<◌, ◌≤◌, ◌⊎◌, [], ◌∷◌, true, false};
 ghost use Rattle.words.specs.Layout.{page_of};
 ghost use Rattle.words.specs.declared.limits.TheConstants.{FIRST_ADDRESS};
 ghost use Rattle.block_map.specs.FoundIn.{found_in};
@@ -20,8 +24,23 @@ use pages::{Reader, Words};
 use words::limits::{PAGE_BYTES, WORD_BYTES};
 use words::{PageNo, page_of};
 
-// The bytes of a span: its marks are 64 bytes, a line of memory.
-const SPAN_BYTES: u64 = 2 * PAGE_BYTES;
+// The bytes of a span: its marks are two lines of memory.
+const SPAN_BYTES: u64 = 4 * PAGE_BYTES;
+
+// So many spans in a row, 1 MB of the heap, are shared out among the helpers.
+const SPANS: u64 = 64;
+
+// A helper that may read more words than this reads until nothing waits, and no round comes after it.
+const ENDLESS: u64 = u64::MAX / 2;
+
+// Whose turn a span is. Nothing is divided but by powers of two, which costs less than the look at a word.
+#[inline]
+fn turn_of_span(span: u64, helpers: usize) -> usize
+    ensures { result ≡ (helpers * (span % 64)) / 64 }
+{
+    let product = helpers as u128 * u128::from(span % SPANS);
+    (product / u128::from(SPANS)) as usize
+}
 
 impl<'a> Pause<'a> {
     // Whether a word points into one of the helper's spans.
@@ -35,7 +54,7 @@ impl<'a> Pause<'a> {
         if !self.is_inside(word) {
             return false;
         }
-        (word / SPAN_BYTES) as usize % self.helpers == helper.place
+        turn_of_span(word / SPAN_BYTES, self.helpers) == helper.place
     }
 
     // Marks the object that a word points into, if the word is the helper's. Answers whether it is the helper's and stray.
@@ -46,7 +65,7 @@ impl<'a> Pause<'a> {
         ensures stray { TellsStray (found_in self.now.map.now) (bytes_of self.now.marker.now) (own_words (pause_view self.now) helper.old.place (word ∷ [])) result }
     {
         if self.is_own(helper, word) {
-            self.visit_target(gate, helper, word)
+            self.visit_target(gate, helper, word, helper.left > ENDLESS)
         } else {
             false
         }

@@ -3,8 +3,8 @@ use Rattle.words.specs.declared.class.Kind.TheVariants.{Normal}
 use Rattle.final_pause.specs.Waiting.{IsPut}
 use Rattle.final_pause.proofs.helper.queue.Goals as goal
 
-pub returns-else-not-put : goal.returns-else-not-put
-returns-else-not-put c =
+pub returns-then-put : goal.returns-then-put
+returns-then-put c =
     let normal : c.args.found.kind ≡ Normal = search rules in
     let put : IsPut c.args.helper.now.waiting c.args.found.base c.put.new.self = search rules in
     record {

@@ -7,6 +7,7 @@ use Rattle.marker.proofs.MarkWord.{markable}
 use Rattle.marker.proofs.Parts.{next_has_part}
 use Rattle.final_pause.specs.Pauses.{pause_view}
 use Rattle.final_pause.specs.Helping.{found}
+use Rattle.final_pause.specs.Serving.{IsTurnAt}
 use Rattle.final_pause.proofs.Serving.{serves_words, part_read}
 use Rattle.final_pause.proofs.share.Pause.read_part.Goals as goal
 
@@ -35,7 +36,7 @@ granule_of-requires g c = let a = (c.requires.serving.fits.ready.map.placed _ _ 
 pub returns-then-not-is_turn-clause-read : goal.returns-then-not-is_turn-clause-read
 returns-then-not-is_turn-clause-read g c =
     part_read (pause_view c.args.self.now) c.requires.serving.fits.ready.map (view c.args.helper.now.claimer) c.args.helper.now.carried c.args.helper.now.place c.args.number c.args.low c.args.high c.part_between-part.result.stop c.args.found c.requires.next c.part_between-part.ensures.inside
-    (λ n m turn. let same = c.granule_of.ensures in let t : c.is_turn.result ≡ true = c.is_turn.ensures.1 (subst (λ (k : ℕ). (c.args.number + k / 16) % c.args.self.now.helpers ≡ c.args.helper.now.place) (sym same) turn) in grind (arith, t, c.if-not-is_turn.true))
+    (λ n m turn. let same = c.granule_of.ensures in let t : c.is_turn.result ≡ true = c.is_turn.ensures.1 (subst (λ (k : ℕ). IsTurnAt (pause_view c.args.self.now) c.args.helper.now.place c.args.number k) (sym same) turn) in grind (arith, t, c.if-not-is_turn.true))
 
 pub returns-then-not-is_marked-clause-read : goal.returns-then-not-is_marked-clause-read
 returns-then-not-is_marked-clause-read g c =
