@@ -16,7 +16,7 @@ use words::limits::MARK_STACK_ENTRIES;
 const ENTRIES: usize = MARK_STACK_ENTRIES as usize;
 
 // So many are looked at together.
-const AHEAD: usize = 8;
+const AHEAD: usize = 16;
 
 /// The bases of objects that wait to be read. Contracts see them as one list, whose order says nothing.
 #[derive(Drop)]
