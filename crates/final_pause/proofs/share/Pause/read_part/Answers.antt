@@ -1,4 +1,4 @@
-use Rattle.std.proofs.Common.{◌≡◌, ℕ, ◌+◌, ◌/◌, ◌%◌, ◌∙◌, subst, true, length, sym, ap, rules, arith}
+use Rattle.std.proofs.Common.{◌≡◌, ℕ, ◌∙◌, subst, true, length, sym, ap, rules, arith}
 use Rattle.words.specs.declared.class.Kind.TheVariants.{Normal, PointerFree}
 use Rattle.mark_bits.specs.Tables.{view}
 use Rattle.marker.specs.Closure.{held}
