@@ -1,12 +1,10 @@
-# shellcheck shell=bash disable=SC2154 # (whoever reads this has the other names)
-# Which builds of the programs the tests run: those in the folder MPHEAP_PROGRAMS, as `./mpheap test` gives them, or else the proved ones
-# that `rt ci` or `./mpheap build` left.
+# shellcheck shell=bash disable=SC2034,SC2154 # (whoever reads this has the other names, and reads these)
+# Which build the tests run: the program MPHEAP_PROGRAM, as `./mpheap test` gives it, or else the proved one that `rt ci` or `./mpheap build`
+# left.
+build=${MPHEAP_PROGRAM:-$top/crates/mpheap/out/mpheap}
 
-# build_of PROGRAM
-build_of() { echo "${MPHEAP_PROGRAMS:-$top/crates/$1/out}/$1"; }
-
-# is_built PROGRAM: else it is a failure.
+# is_built: else it is a failure.
 is_built() {
-    [ -x "$(build_of "$1")" ] || is "a build of $1" there "not there: './mpheap build' makes a proved one, './mpheap test' an unproved one"
-    [ -x "$(build_of "$1")" ]
+    [ -x "$build" ] || is "a build" there "not there: './mpheap build' makes a proved one, './mpheap test' an unproved one"
+    [ -x "$build" ]
 }

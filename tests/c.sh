@@ -213,15 +213,14 @@ rows_have_their_replies() {
 
 # The program's replies to random scripts, which it writes too, and those through C. Which build it is, is said in tests/builds.sh.
 random_scripts_have_the_same_replies() {
-    local program seed mutators steps pages differ=0
-    program=$(build_of mpheap)
-    if [ ! -x "$program" ]; then
+    local seed mutators steps pages differ=0
+    if [ ! -x "$build" ]; then
         echo "c: no build of mpheap here: 200 random scripts are left out"
         return
     fi
     while read -r seed mutators steps pages; do
-        "$program" stress --seed "$seed" --mutators "$mutators" --steps "$steps" >"$room/random"
-        "$program" run --pages "$pages" "$room/random" >"$room/wanted" 2>&1
+        "$build" stress --seed "$seed" --mutators "$mutators" --steps "$steps" >"$room/random"
+        "$build" run --pages "$pages" "$room/random" >"$room/wanted" 2>&1
         "$room/script" "$pages" <"$room/random" >"$room/out" 2>&1
         cmp -s "$room/wanted" "$room/out" || { differ=$((differ + 1)) && echo "c: seed $seed has other replies"; }
     done < <(seeds)

@@ -1,6 +1,6 @@
 # shellcheck shell=bash disable=SC2034,SC2154 # (whoever reads this has `kind`, and uses what is here)
-# Cases of the programs: files on which a program is run, and how it has to end. Read by tests/rows.sh, tests/programs.sh and tests/recording_header.sh, whose
-# name for themselves is `kind`. Which builds run is said in tests/builds.sh.
+# Cases of the program: files on which it is run, and how it has to end. Read by tests/rows.sh, tests/programs.sh and
+# tests/recording_header.sh, whose name for themselves is `kind`. Which build runs is said in tests/builds.sh.
 top=$(dirname "$(dirname "$(readlink -f "${BASH_SOURCE[0]}")")")
 # shellcheck source=tests/builds.sh
 . "$top/tests/builds.sh"
@@ -20,14 +20,16 @@ is() {
     fi
 }
 
-# open_cases PROGRAM: the cases of a program.
+# open_cases COMMAND: the cases of a command, or of `mpheap`, of which each case has its own.
 open_cases() {
-    program=$1
-    cases=$room/$program
+    of=$1
+    command=("$1")
+    [ "$1" != mpheap ] || command=()
+    cases=$room/$1
     mkdir "$cases"
 }
 
-# case_is NAME STATUS SAID WORDS..: how the program is to end with these words, where {} is the file NAME of `cases`, and what it is
+# case_is NAME STATUS SAID WORDS..: how the command is to end with these words, where {} is the file NAME of `cases`, and what it is
 # to say on standard error. What it is to print lies beside that file.
 case_is() {
     printf '%s\n' "${@:4}" >"$cases/$1.args"
@@ -42,21 +44,20 @@ from_the_rule() {
 }
 
 run_all_cases() {
-    local name status said words build
-    build=$(build_of "$program")
+    local name status said words
     while IFS='|' read -r name status said; do
         mapfile -t words <"$cases/$name.args"
-        "$build" "${words[@]/#\{\}/"$cases/$name"}" >"$room/out" 2>"$room/err" </dev/null
+        "$build" "${command[@]}" "${words[@]/#\{\}/"$cases/$name"}" >"$room/out" 2>"$room/err" </dev/null
         is "$name: status, what is said" "$status $said" "$? $(cat "$room/err")"
         [ ! -e "$cases/$name.rule" ] || from_the_rule "$cases/$name.stdout"
         is "$name: what is printed" "" "$(cmp "$cases/$name.stdout" "$room/out" 2>&1)"
     done <"$cases.wanted"
 }
 
-# run_cases LEAST: the cases of the program, of which there are so many at least.
+# run_cases LEAST: the cases of the command, of which there are so many at least.
 run_cases() {
-    is "cases of $program" yes "$([ "$(wc -l <"$cases.wanted")" -ge "$1" ] && echo yes)"
-    if is_built "$program"; then run_all_cases; fi
+    is "cases of $of" yes "$([ "$(wc -l <"$cases.wanted")" -ge "$1" ] && echo yes)"
+    if is_built; then run_all_cases; fi
 }
 
 # named_places RUN: standard input, with the address of the Nth alloc of the run in the place of each {N}, and in hexadecimal of each {0xN}.

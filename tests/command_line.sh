@@ -1,12 +1,11 @@
 #!/usr/bin/env bash
 # Tests of the program `mpheap` as it is called: which words it takes, which file or input it reads, what it prints and says, and with
-# which status it ends (docs/SCRIPTS.md); and of the words that the wrapper refuses, which the programs refuse too. Over proved builds
+# which status it ends (docs/SCRIPTS.md); and of the words that the wrapper refuses, which the program refuses too. Over a proved build
 # (tests/builds.sh) it takes some seconds.
 set -uo pipefail
 kind="command line"
 # shellcheck source=tests/cases.sh
 . "$(dirname "$(readlink -f "${BASH_SOURCE[0]}")")/cases.sh"
-program=$(build_of mpheap)
 cd "$room" || exit 1
 
 lines() { printf '%s\n' "$@"; }
@@ -14,7 +13,7 @@ lines() { printf '%s\n' "$@"; }
 # ends WHAT STATUS SAID PRINTED WORDS..: with these words, and the input of this call, the program ends so.
 ends() {
     local status=0
-    "$program" "${@:5}" >out 2>err || status=$?
+    "$build" "${@:5}" >out 2>err || status=$?
     is "$1" "$2|$3|$4" "$status|$(cat err)|$(cat out)"
 }
 
@@ -41,10 +40,10 @@ scripts_are_answered() {
 
 faults_of_writing_are_told() {
     local status=0
-    "$program" run --pages 4 a.script >/dev/full 2>err || status=$?
+    "$build" run --pages 4 a.script >/dev/full 2>err || status=$?
     is "an output that can't be written" "1|write fault" "$status|$(cat err)"
     status=0
-    printf 'attach\n?\n' | "$program" run --pages 4 2>/dev/full >out || status=$?
+    printf 'attach\n?\n' | "$build" run --pages 4 2>/dev/full >out || status=$?
     is "a fault that can't be told" "2|mutator 0" "$status|$(cat out)"
 }
 
@@ -88,25 +87,23 @@ other_words_are_no_command() {
 
 random_scripts_are_written() {
     ends "the greatest seed, all mutators, no further line" 0 "" "$(yes attach | head -n 16)" stress --seed 18446744073709551615 --mutators 16 --steps 0 <.
-    "$program" stress --seed 1 --mutators 1 --steps 100000 >out 2>err
+    "$build" stress --seed 1 --mutators 1 --steps 100000 >out 2>err
     is "all steps" "0 100001" "$? $(wc -l <out)"
 }
 
 # refuses WHAT WORDS..: the wrapper says WHAT of these words, how they are used, and last what the program says, with its status; it reads
-# nothing, and calls no rt. The program, where one does the command, doesn't take them either.
+# nothing, and calls no rt. The program, where it does the command, doesn't take them either.
 refuses() {
-    local status=0 last="bad command" form build=("$program")
+    local status=0 last="bad command" takes=$build
     PATH=$room/no_rt:$PATH "$top/mpheap" "${@:2}" >out 2>err <. || status=$?
-    form=$(sed -n 's/^usage: mpheap //p' err)
     case ${2-} in
-        record) last=$form build=("$(build_of record)") ;;
-        replay) last="replay (--pages N | --bytes N) [--places any [--from ADDRESS]] [--why] FILE" build=("$(build_of replay)") ;;
-        draw) last="draw --pages N [--run] FILE" build=("$(build_of draw)") ;;
-        build | test | package | install | completion | manual | help) last="'mpheap help $2' says more" build=(false) ;;
+        record) last="record --pages N FILE" ;;
+        replay) last="replay (--pages N | --bytes N) [--places any [--from ADDRESS]] [--why] FILE" ;;
+        draw) last="draw --pages N [--run] FILE" ;;
+        build | test | package | install | completion | manual | help) last="'mpheap help $2' says more" takes=false ;;
     esac
     is "the words: ${*:2}" "2|mpheap: $1|$last|" "$status|$(head -n 1 err)|$(tail -n 1 err)|$(cat out)"
-    case ${2-} in record | replay | draw) set -- "$1" "${@:3}" ;; esac
-    "${build[@]}" "${@:2}" >out 2>err <. && is "the program refuses the words: ${*:2}" yes no
+    "$takes" "${@:2}" >out 2>err <. && is "the program refuses the words: ${*:2}" yes no
 }
 
 wrong_words_are_told() {
@@ -145,7 +142,7 @@ wrong_words_are_told() {
     refuses "'100001' is no number for '--steps': 0 to 100000, in decimal" stress --seed 1 --mutators 1 --steps 100001
 }
 
-words_of_other_programs_are_told() {
+words_of_commands_on_files_are_told() {
     refuses "'record' lacks '--pages'" record no.script
     refuses "'record' lacks its FILE" record --pages 4
     refuses "'record' has no option '--why'" record --pages 4 --why no.script
@@ -206,13 +203,11 @@ mkdir no_rt
 # shellcheck disable=SC2016 # (the stand-in for rt expands it)
 printf '#!/bin/sh\necho "rt is called: $*" >&2\nexit 1\n' >no_rt/rt
 chmod +x no_rt/rt
-if is_built mpheap && is_built record && is_built replay && is_built draw; then
+if is_built; then
     wrong_words_are_told
-    words_of_other_programs_are_told
+    words_of_commands_on_files_are_told
     ranges_are_told
     words_of_the_wrapper_are_told
-fi
-if is_built mpheap; then
     scripts_are_answered
     faults_of_writing_are_told
     workloads_run_on_threads

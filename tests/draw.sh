@@ -1,11 +1,13 @@
 #!/usr/bin/env bash
-# Tests of the program `draw`: the trace of each worked example is compared, line by line, with the run that `record` writes of the
+# Tests of the command `draw`: the trace of each worked example is compared, line by line, with the run that `record` writes of the
 # same script, from which tests/draw/run.py works out what is true, and its replies with those beside the script. The trace of that run,
 # by `draw --run`, is compared with both, and those of the written runs of tests/rows with what `replay` says of them. Of the examples
 # and of random scripts it is looked at which words each `gc mark` is said to have read (tests/draw/looked.py).
-# Which builds run is said in tests/builds.sh. Over proved ones it takes seconds. It needs Python 3, and leaves nothing behind.
+# Which build runs is said in tests/builds.sh. Over a proved one it takes seconds. It needs Python 3, and leaves nothing behind.
 set -uo pipefail
 top=$(dirname "$(dirname "$(readlink -f "${BASH_SOURCE[0]}")")")
+# shellcheck source=tests/builds.sh
+. "$top/tests/builds.sh"
 room=$(mktemp -d)
 trap 'rm -rf "$room"' EXIT
 trap 'exit 143' INT TERM HUP
@@ -37,14 +39,14 @@ replies_are_those() {
     replies "$1" | diff - "$2"
 }
 
-# case_is CASES FILE NAME WORDS..: the file with the words to call a program with.
+# case_is CASES FILE NAME WORDS..: the file with the words to call a command with.
 case_is() {
     mkdir -p "$room/$1"
     [ "$2" = "$room/$1/$3" ] || cp "$2" "$room/$1/$3"
     printf '%s\n' "${@:4}" >"$room/$1/$3.args"
 }
 
-# run_cases PROGRAM CASES FOLDER: what the program prints of the cases is in the folder.
+# run_cases COMMAND CASES FOLDER: what the command prints of the cases is in the folder.
 run_cases() {
     agrees "$1 runs over $2" "$top/tests/draw/runs.sh" "$1" "$room/$2" "$room/$3"
 }
@@ -111,7 +113,7 @@ agrees "the traces of runs" python3 "$top/tests/draw/judged.py" "$room/runs" "$r
 agrees "what is said of runs" is_said
 printf 'attach\n0 get 16\n' >"$room/bad"
 printf 'attach => mutator 0\nnonsense\n' >"$room/bad_run"
-agrees "which line of a script is bad" says 2 "bad line 2" "${MPHEAP_PROGRAMS:-$top/crates/draw/out}/draw" --pages 4 "$room/bad"
-agrees "which line of a run is none" says 2 "line 2: not a line of a run" "${MPHEAP_PROGRAMS:-$top/crates/draw/out}/draw" --pages 4 --run "$room/bad_run"
+agrees "which line of a script is bad" says 2 "bad line 2" "$build" draw --pages 4 "$room/bad"
+agrees "which line of a run is none" says 2 "line 2: not a line of a run" "$build" draw --pages 4 --run "$room/bad_run"
 echo "draw: $passed passed, $failed failed"
 [ "$failed" = 0 ] && [ "$passed" -gt 2 ]

@@ -1,7 +1,7 @@
 #!/usr/bin/env python3
 """Random runs of the heap beside a heap without pages: scripts are written down by `record`, and `replay`, whose heap is a plain map of
 objects, has to find the runs legal: each reply, and what each collection took and left. Then lines of them are changed, and it has to say
-no at each of these. Over proved programs it takes half a minute."""
+no at each of these. Over a proved build it takes half a minute."""
 import os
 import sys
 import tempfile

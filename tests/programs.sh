@@ -1,7 +1,8 @@
 #!/usr/bin/env bash
-# Tests of whole programs on files: each of examples/ prints the replies that stand beside it; and what `replay` and `record` print and
-# say, and with which status they end, on files that are legal, broken or bad or can't be read, and with words that they don't take.
-# Expected replies and statuses are worked by hand, from docs/REPLAY.md. Over proved programs (tests/cases.sh) it takes some seconds.
+# Tests of the program on whole files: each of examples/ prints the replies that stand beside it, and each of tests/stored what stands there;
+# and what `replay` and `record` print and say, and with which status they end, on files that are legal, broken or bad or can't be read, and
+# with words that they don't take.
+# Expected replies and statuses are worked by hand, from docs/REPLAY.md. Over a proved build (tests/cases.sh) it takes some seconds.
 # It needs cc.
 set -uo pipefail
 kind=programs
@@ -31,6 +32,19 @@ examples_print_their_replies() {
     done
 }
 
+# stored NAME ANSWER WORDS..: of the file NAME of tests/stored this command prints the file ANSWER.
+stored() {
+    cp "$top/tests/stored/$1" "$cases/stored_$3"
+    cp "$top/tests/stored/$2" "$cases/stored_$3.stdout"
+    case_is "stored_$3" 0 "" "${@:3}" {}
+}
+
+stored_files_have_their_answers() {
+    stored first.script first.run record --pages 1
+    stored first.replay first.verdict replay --pages 1
+    stored lazy_sweep.script lazy_sweep.trace draw --pages 4
+}
+
 # What is said of a request that was granted where no object may lie, and of words that `replay` doesn't take.
 not_placed="no object of so many words may be placed there, it has fewer words than were asked for, or the slot has no mutator"
 replay_usage="replay (--pages N | --bytes N) [--places any [--from ADDRESS]] [--why] FILE"
@@ -38,7 +52,7 @@ replay_usage="replay (--pages N | --bytes N) [--places any [--from ADDRESS]] [--
 # Words that neither of `replay` and `record` takes, and files that neither can read.
 faults_are_told() {
     local usage="record --pages N FILE"
-    [ "$program" = record ] || usage=$replay_usage
+    [ "$of" = record ] || usage=$replay_usage
     printf 'attach\n\377\n' | file_is no_text 1 "read fault" "" --pages 1 {}
     file_is no_file 1 "read fault" "" --pages 1 not.there </dev/null
     file_is no_page 2 "$usage" "" --pages 0 {} </dev/null
@@ -234,7 +248,8 @@ runs_are_written() {
 
 open_cases mpheap
 examples_print_their_replies
-run_cases 12
+stored_files_have_their_answers
+run_cases 15
 open_cases replay
 written_runs_are_judged
 paths_are_shown

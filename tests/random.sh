@@ -1,5 +1,5 @@
 #!/usr/bin/env bash
-# Random scripts and workloads, which the program `mpheap` writes and runs, and runs of them for `record` and `replay`; and workloads whose
+# Random scripts and workloads, which the program writes and runs, and runs of them for `record` and `replay`; and workloads whose
 # calls come in whatever order:
 # - three texts are those of the published rule (tests/random/texts);
 # - 200 workloads of 1, 4 and 16 mutators on 1, 2, 8 and 64 pages: each reply is one that its call may have in some order of the calls,
@@ -10,7 +10,7 @@
 # - four mutators beside a hundred cycles, ended by one helper and by four, over enough words for these to start once mutator 0 has
 #   made its objects: each load answers what was stored;
 # - 50 scripts of 3,004 lines, and 1,000 orders of calls round one object (tests/random/orders.py), are legal as they are recorded.
-# Over proved builds (tests/builds.sh) it takes some seconds. It needs Python 3.
+# Over a proved build (tests/builds.sh) it takes some seconds. It needs Python 3.
 set -uo pipefail
 kind=random
 # shellcheck source=tests/cases.sh
@@ -61,7 +61,7 @@ write_all() {
     done
     for seed in $(seq 20); do stress "long_$seed" "$seed" 3 2000; done
     for seed in $(seq 50); do stress "run_$seed" "$seed" 4 3000; done
-    works "scripts are written" "$top/tests/outputs.sh" mpheap "$cases" "$room/drawn"
+    works "scripts are written" "$top/tests/outputs.sh" "$cases" "$room/drawn"
 }
 
 # Each of four mutators stores and loads its own numbers. Mutator 0 first makes an object that points to 160 others, each of a page.
@@ -114,7 +114,7 @@ run_all() {
         script_is "link_$seed" threads --pages 4 --helpers 2 {}
     done
     beside_cycles
-    works "they run" "$top/tests/outputs.sh" mpheap "$cases" "$room/printed"
+    works "they run" "$top/tests/outputs.sh" "$cases" "$room/printed"
 }
 
 # The scripts that are recorded, and their runs as they are replayed.
@@ -130,9 +130,9 @@ record_all() {
         [[ $name == order_* ]] || pages=8
         script_is "$name" --pages $pages {}
     done
-    works "scripts are recorded" "$top/tests/outputs.sh" record "$cases" "$room/recorded"
+    works "scripts are recorded" "$top/tests/outputs.sh" "$cases" "$room/recorded" record
     for script in "$cases"/*.args; do cp "$script" "$room/recorded"; done
-    works "their runs are replayed" "$top/tests/outputs.sh" replay "$room/recorded" "$room/said_of"
+    works "their runs are replayed" "$top/tests/outputs.sh" "$room/recorded" "$room/said_of" replay
 }
 
 texts_are_those_of_the_rule() {

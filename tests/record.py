@@ -1,7 +1,7 @@
 #!/usr/bin/env python3
 """Histories that threads made: the workloads of tests/rows and random ones are run by `threads --record`, each run is replayed, and it has
 to be legal, to have as many lines as the history must have, and to hold each actor's lines in their order with the replies that were
-printed. What is printed has to be what stands in the rows, or laid out as without `--record`. Which builds run is said in
+printed. What is printed has to be what stands in the rows, or laid out as without `--record`. Which build runs is said in
 tests/builds.sh."""
 import os
 import re
@@ -11,7 +11,7 @@ import tempfile
 
 sys.dont_write_bytecode = True
 sys.path.insert(0, os.path.join(os.path.dirname(os.path.abspath(__file__)), "random"))
-from programs import build_of
+from programs import BUILD
 
 TOP = os.path.dirname(os.path.dirname(os.path.abspath(__file__)))
 
@@ -30,10 +30,10 @@ def judge(what, is_right, seen=""):
         print(f"record: {what}: {seen}", flush=True)
 
 
-def run(program, *words, status=0):
-    done = subprocess.run([build_of(program), *words], stdin=subprocess.DEVNULL,
+def run(*words, status=0):
+    done = subprocess.run([BUILD, *words], stdin=subprocess.DEVNULL,
                           capture_output=True, text=True, check=False, timeout=120)
-    judge(f"{program} {' '.join(words)}", done.returncode == status, f"status {done.returncode}, {done.stderr}")
+    judge(' '.join(words), done.returncode == status, f"status {done.returncode}, {done.stderr}")
     return done
 
 
@@ -85,7 +85,7 @@ def recorded(folder, what, workload, pages, *words):
     script, record = os.path.join(folder, "workload"), os.path.join(folder, "record")
     with open(script, "w", encoding="ascii") as out:
         out.write(workload)
-    printed = run("mpheap", "threads", "--pages", str(pages), *words, "--record", record, script).stdout
+    printed = run("threads", "--pages", str(pages), *words, "--record", record, script).stdout
     with open(record, encoding="ascii") as text:
         history = text.read()
     wanted = wanted_lines(workload, printed_replies(printed))
@@ -114,10 +114,10 @@ def rows(folder):
 
 def one(folder, seed):
     mutators, pages, helpers = (1, 4, 16)[seed % 3], (1, 2, 8, 64)[seed % 4], seed % 2 + 1
-    workload = run("mpheap", "stress", "--seed", str(seed), "--mutators", str(mutators), "--steps", "600").stdout
+    workload = run("stress", "--seed", str(seed), "--mutators", str(mutators), "--steps", "600").stdout
     words = ["--helpers", str(helpers)]
     printed, script = recorded(folder, f"seed {seed}", workload, pages, *words)
-    plain = printed_replies(run("mpheap", "threads", "--pages", str(pages), *words, script).stdout)
+    plain = printed_replies(run("threads", "--pages", str(pages), *words, script).stdout)
     actors = printed_replies(printed)
     judge(f"seed {seed}: the same lines are answered", [(k, len(v)) for k, v in actors.items()] == [(k, len(v)) for k, v in plain.items()])
     return script
@@ -129,7 +129,7 @@ def main():
         for seed in SEEDS:
             script = one(folder, seed)
         for path in ("/dev/full", os.path.join(folder, "none", "record")):
-            done = run("mpheap", "threads", "--pages", "8", "--record", path, script, status=1)
+            done = run("threads", "--pages", "8", "--record", path, script, status=1)
             judge(f"a history that can't be written to {path}", done.stderr == "write fault\n" and done.stdout, done.stderr)
     print(f"record: {passed} passed, {failed} failed")
     return failed != 0

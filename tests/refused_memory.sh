@@ -1,11 +1,14 @@
 #!/usr/bin/env bash
-# What holds where memory is refused, in the programs and the tests that 'rt ci' left: each request of a run is refused alone, the
-# first, the second and on until a run asks for no more. A row's calls on an open heap ask for none. And each program runs on a small
+# What holds where memory is refused, in the program and the tests that 'rt ci' left: each request of a run is refused alone, the
+# first, the second and on until a run asks for no more. A row's calls on an open heap ask for none. And each command runs on a small
 # stack, as docs/SCRIPTS.md says. It needs cc.
 set -uo pipefail
 kind="refused memory"
 # shellcheck source=tests/refused/parts.sh
 . "$(dirname "$(readlink -f "${BASH_SOURCE[0]}")")/refused/parts.sh"
+
+program=$crates/mpheap/out/mpheap
+stored=$top/tests/stored
 
 # each_alone WHAT WANTED ENDS WORDS..: the words, with each request refused alone, up to one that never comes. ENDS prints how a run
 # ended, WANTED if it ended well, and so has the last one, with status 0.
@@ -55,12 +58,10 @@ all_or_first() {
 
 tests() { each_alone "$1 $2" 0 passes "$crates/$1/out/$1_tests" "$2"; }
 
-# program NAME ENDS LINES WORDS..: the program, which is to print these lines.
-program() {
-    local what=$1
-    lines=$3
-    [[ $4 == --* ]] || what="$1 $4"
-    each_alone "$what" well "$2" "$crates/$1/out/$1" "${@:4}"
+# does ENDS LINES WORDS..: the program with these words, which is to print these lines.
+does() {
+    lines=$2
+    each_alone "mpheap $3" well "$1" "$program" "${@:3}"
 }
 
 # While a request of `open` is refused there is no heap, and the test of the hidden pointer fails for want of it. The first run that
@@ -78,13 +79,13 @@ after_open() {
     echo "$kind: $((from - 1)) requests of open, and none of a row's calls behind it"
 }
 
-# on_small_stack LINES NAME WORDS..: the program prints these lines on a stack of 128 KB.
+# on_small_stack LINES WORDS..: the program prints these lines on a stack of 128 KB.
 on_small_stack() {
-    local lines=$1 name=$2 program=$crates/$2/out/$2
-    shift 2
+    local lines=$1
+    shift
     is_there "$program" || return
     { (ulimit -c 0 && ulimit -s 128 && exec "$program" "$@") >"$room/out" 2>"$room/err" </dev/null; status=$?; } 2>>"$room/err"
-    is "$name $* on a small stack" "status 0, all lines" "status $status, $(cmp -s "$room/out" "$lines" && echo all lines)"
+    is "mpheap $* on a small stack" "status 0, all lines" "status $status, $(cmp -s "$room/out" "$lines" && echo all lines)"
 }
 
 tests test_core opening::a_refused_heap_can_be_opened_again
@@ -95,22 +96,22 @@ tests test_workloads script_faults::refused_memory
 tests test_workloads failures::refused_memory
 tests test_workloads pause::refused_memory
 tests test_workloads refused_helpers::refused_thread
-program mpheap all_or_none "$top/examples/hidden_pointer.replies" run --pages 4 "$top/examples/hidden_pointer.script"
-program mpheap all_or_none "$top/examples/two_threads.replies" threads --pages 4 --helpers 2 "$top/examples/two_threads.workload"
-program mpheap all_or_file "$top/examples/two_threads.replies" threads --pages 4 --helpers 2 --record "$room/record" \
+does all_or_none "$top/examples/hidden_pointer.replies" run --pages 4 "$top/examples/hidden_pointer.script"
+does all_or_none "$top/examples/two_threads.replies" threads --pages 4 --helpers 2 "$top/examples/two_threads.workload"
+does all_or_file "$top/examples/two_threads.replies" threads --pages 4 --helpers 2 --record "$room/record" \
     "$top/examples/two_threads.workload"
 # What a random script is to be is told by tests/random.sh; here it is the one that is written where none is refused.
-"$crates/mpheap/out/mpheap" stress --seed 1 --mutators 2 --steps 100 >"$room/stress"
-program mpheap all_or_none "$room/stress" stress --seed 1 --mutators 2 --steps 100
-program replay all_or_first "$crates/replay/stdout" --pages 1 "$crates/replay/data/first.replay"
-program record all_or_first "$crates/record/stdout" --pages 1 "$crates/record/data/first.script"
-program draw all_or_first "$crates/draw/stdout" --pages 4 "$crates/draw/data/lazy_sweep.script"
-on_small_stack "$top/examples/hidden_pointer.replies" mpheap run --pages 4 "$top/examples/hidden_pointer.script"
-on_small_stack "$top/examples/two_threads.replies" mpheap threads --pages 4 --helpers 8 "$top/examples/two_threads.workload"
-on_small_stack "$top/examples/two_threads.replies" mpheap threads --pages 4 --record "$room/record" "$top/examples/two_threads.workload"
-on_small_stack "$room/stress" mpheap stress --seed 1 --mutators 2 --steps 100
-on_small_stack "$crates/replay/stdout" replay --pages 1 "$crates/replay/data/first.replay"
-on_small_stack "$crates/record/stdout" record --pages 1 "$crates/record/data/first.script"
-on_small_stack "$crates/draw/stdout" draw --pages 4 "$crates/draw/data/lazy_sweep.script"
+"$program" stress --seed 1 --mutators 2 --steps 100 >"$room/stress"
+does all_or_none "$room/stress" stress --seed 1 --mutators 2 --steps 100
+does all_or_first "$stored/first.verdict" replay --pages 1 "$stored/first.replay"
+does all_or_first "$stored/first.run" record --pages 1 "$stored/first.script"
+does all_or_first "$stored/lazy_sweep.trace" draw --pages 4 "$stored/lazy_sweep.script"
+on_small_stack "$top/examples/hidden_pointer.replies" run --pages 4 "$top/examples/hidden_pointer.script"
+on_small_stack "$top/examples/two_threads.replies" threads --pages 4 --helpers 8 "$top/examples/two_threads.workload"
+on_small_stack "$top/examples/two_threads.replies" threads --pages 4 --record "$room/record" "$top/examples/two_threads.workload"
+on_small_stack "$room/stress" stress --seed 1 --mutators 2 --steps 100
+on_small_stack "$stored/first.verdict" replay --pages 1 "$stored/first.replay"
+on_small_stack "$stored/first.run" record --pages 1 "$stored/first.script"
+on_small_stack "$stored/lazy_sweep.trace" draw --pages 4 "$stored/lazy_sweep.script"
 after_open
 close

@@ -1,7 +1,7 @@
 #!/usr/bin/env bash
 # Runs the rows of tests/rows, all worked by hand: scripts beside their replies, workloads beside what is printed, lines that are none, and
 # written runs beside what is said of them. `replay`, which has a plain heap without pages, finds what `record` writes of each script
-# legal. Over proved programs (tests/cases.sh) it takes some seconds. Scripts, lines and workloads stand in tests of test_rows and
+# legal. Over a proved build (tests/cases.sh) it takes some seconds. Scripts, lines and workloads stand in tests of test_rows and
 # test_workloads too, and it looks whether these still say what the rows say.
 set -uo pipefail
 kind=rows

@@ -148,7 +148,7 @@ nothing_goes_without_rt
 the_other_way_is_found
 words_stay_as_they_are
 words_come_in_any_order
-each_program_is_called_by_its_name
+each_command_is_called_by_its_name
 a_drawn_run_is_a_page
 limits_are_the_programs
 limits_are_told_first

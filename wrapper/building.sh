@@ -4,9 +4,8 @@
 # crate_of WORD: the crate of what the word names.
 crate_of() {
     case $1 in
-        run | threads | stress | mpheap) echo mpheap ;;
-        record | replay | draw) echo "$1" ;;
         c | gc) echo mpheap_c ;;
+        *) echo mpheap ;;
     esac
 }
 
@@ -18,8 +17,8 @@ has_compiler() {
 build() {
     local word crate lacking=() made=() not_made=() runs_otherwise=()
     if [[ $# = 0 ]]; then
-        set -- "${programs[@]}"
-        if has_compiler; then set -- "$@" c gc; else say "there is no C compiler: c and gc aren't built (CC names another than cc)"; fi
+        set -- mpheap
+        if has_compiler; then set -- mpheap c gc; else say "there is no C compiler: c and gc aren't built (CC names another than cc)"; fi
     fi
     make_room
     mkdir -p "$here/out" || no_answer "$here/out can't be made"

@@ -2,9 +2,9 @@
 # Part of the wrapper mpheap, read by it: the page of `draw`, which is its trace joined with the page in viewer/. Its first line says from what it
 # comes, and of a run that is refused its last one says first what `replay` does: what the line did.
 
-# give FILE: what a program printed; of `draw` the page that shows it, if there is any line to show.
+# give FILE: what the program printed; of `draw` the page that shows it, if there is any line to show.
 give() {
-    if [[ $program != draw ]]; then
+    if [[ $command != draw ]]; then
         cat "$1"
     elif [[ -s $1 ]]; then
         titled "$1" | "$here/viewer/join.sh" -
@@ -27,7 +27,7 @@ plain() {
 origin() {
     local what=script pages=${given[--pages]} by="an unproved build" at
     [[ ! -v given[--run] ]] || what=run
-    [[ $build != "$(built draw)" ]] || by="the proved build"
+    [[ $build != "$(built mpheap)" ]] || by="the proved build"
     at=$(commit)
     if [[ $at =~ ^[0-9a-f]{40} ]]; then at=${at:0:12}${at:40}; fi
     echo "the $what ${file:+$(basename -- "$file") }on $pages page$([[ $pages = 1 ]] || echo s), by $by, commit $at"
@@ -51,10 +51,8 @@ retell_run() {
     mv "$room/rule" "$room/said"
 }
 
-# judge_drawn RUN: by `replay`, if there is a build that can be kept.
+# judge_drawn RUN: by `replay`.
 judge_drawn() {
-    local program=replay command=replay build
-    find_build
-    [[ -n $build ]] || return
-    run_beside "$1" "$build" --pages "${given[--pages]}" "$1" || true
+    local command=replay
+    run_beside "$1" "$build" replay --pages "${given[--pages]}" "$1" || true
 }

@@ -11,7 +11,6 @@ is_many() {
 judge_many() {
     local one worst=0 status build words runner=()
     make_room
-    program=replay
     if [[ -v given[--follow] ]]; then
         [[ ${#operands[@]} = 1 ]] || bad_words "'--follow' takes one FILE"
         look_at_file "$file"
@@ -59,11 +58,10 @@ look_at_run() {
     said=$( (read_words replay "${words[@]}") 2>&1) || { head -n 1 <<<"$said" >&2 && exit 2; }
 }
 
-# find_runner: what judges each run: a build of `replay`, or where none can be kept this wrapper.
+# find_runner: what judges each run: a build, or where none can be kept this wrapper.
 find_runner() {
     find_build
-    runner=("$build")
-    [[ -n $build ]] || runner=("$here/mpheap" replay)
+    runner=("${build:-$here/mpheap}" replay)
 }
 
 # judge_run FILE: what the program prints and says is in the room, and its status in $status.

@@ -3,13 +3,9 @@
 # than wrapper/unproved.sh looks for them. Then rt makes a build for each run, which it gives its whole input, for at most 1 MiB of
 # replies and 60 seconds.
 
-# once PROGRAM: says of which rt it is known that no build of the program can be kept.
-once() {
-    echo "$(unproved "$1").once"
-}
-
+# The file says of which rt it is known that no build can be kept.
 is_only_once() {
-    [[ -f $(once "$1") && $(cat "$(once "$1")") = "$(rt version)" ]]
+    [[ -f $unproved.once && $(cat "$unproved.once") = "$(rt version)" ]]
 }
 
 # read_script WHAT: puts all that descriptor 3 has into the file `script` of this run's folder, or says that WHAT can't be read.
@@ -33,18 +29,18 @@ gather_input() {
 
 run_once() {
     local status=0 way="'mpheap build $command' makes one that can"
-    mkdir -p "$(dirname "$(once "$program")")"
-    rt version >"$(once "$program")"
+    mkdir -p "${unproved%/*}"
+    rt version >"$unproved.once"
     [[ ! -v given[--record] ]] || no_answer "an unproved run can't write a file: $way"
     (: 3>&1) 2>/dev/null || no_answer "standard output is closed, which an unproved run can't tell the program"
     gather_input
     say "an unproved build, made for this one run, since this rt lets none be kept"
-    start_rt "$program" try -- "${words[@]}" 3<"$room/script" >"$room/replies" 2>"$room/said"
+    try_program "${words[@]}" 3<"$room/script" >"$room/replies" 2>"$room/said"
     wait_for_child $! || status=$?
     case $(tail -n 1 "$room/said") in
         "run=ended status=$status "*) ;;
         "run=no-answer "*) no_answer "past what an unproved run can do (1 MiB of replies, 60 seconds): $way" ;;
-        *) cat "$room/said" >&2 && no_answer "the unproved build failed with status $status, as rt says above: again by 'cd $here/crates/$program && rt try'" ;;
+        *) cat "$room/said" >&2 && no_answer "the unproved build failed with status $status, as rt says above: again by 'cd $here/crates/mpheap && rt try'" ;;
     esac
     give "$room/replies" 2>/dev/null || no_answer "the replies can't be written to standard output"
     sed '/^checked: ended status=/d; /^races: not looked for/d; /^run=ended status=/d' "$room/said" >&2

@@ -5,25 +5,25 @@
 
 # package DIR
 package() {
-    local crate lacking=() version name stage crates=("${programs[@]}" mpheap_c)
+    local crate lacking=() version name stage crates=(mpheap mpheap_c)
     for crate in "${crates[@]}"; do is_proved "$crate" || lacking+=("$crate"); done
     [[ ${#lacking[@]} = 0 ]] || no_answer "not built of the sources that stand here: ${lacking[*]}; 'mpheap build' builds all"
     make_room
     version=$(number_of_version)
     name=mpheap-$version
     stage=$room/$name
-    { mkdir -p "$stage" "$1" && stage_programs && stage_libraries && stage_papers; } || no_answer "the files can't be gathered in $room"
+    { mkdir -p "$stage" "$1" && stage_command && stage_libraries && stage_papers; } || no_answer "the files can't be gathered in $room"
     pack_archive "$1" || no_answer "$1 can't be written"
     pack_deb "$1" || no_answer "$1 can't be written"
 }
 
-# The command, with the parts that it reads, and the programs.
-stage_programs() {
-    local program share=$stage/lib/mpheap
-    progress "gathers the programs"
-    mkdir -p "$stage/bin" "$share/docs" "$share/programs" && cp -R "$here/mpheap" "$here/wrapper" "$here/viewer" "$share" &&
-        cp "$here/docs/SCRIPTS.md" "$here/docs/REPLAY.md" "$share/docs" && version >"$share/version" && ln -s ../lib/mpheap/mpheap "$stage/bin/mpheap" || return
-    for program in "${programs[@]}"; do cp "$(built "$program")" "$share/programs" || return; done
+# The command, with the parts that it reads, and the program.
+stage_command() {
+    local share=$stage/lib/mpheap
+    progress "gathers the program"
+    mkdir -p "$stage/bin" "$share/docs" && cp -R "$here/mpheap" "$here/wrapper" "$here/viewer" "$share" &&
+        cp "$here/docs/SCRIPTS.md" "$here/docs/REPLAY.md" "$share/docs" && version >"$share/version" && ln -s ../lib/mpheap/mpheap "$stage/bin/mpheap" &&
+        cp "$(built mpheap)" "$share/program"
 }
 
 stage_libraries() {
@@ -63,7 +63,7 @@ pack_archive() {
 
 # newest_glibc: the newest version of the C library that what is packed asks for.
 newest_glibc() {
-    objdump -T "$stage"/lib/mpheap/programs/* "$stage/lib/libmpgc.so" 2>/dev/null | sed -n 's/.*GLIBC_\([0-9.]*\).*/\1/p' | sort -V | tail -n 1
+    objdump -T "$stage/lib/mpheap/program" "$stage/lib/libmpgc.so" 2>/dev/null | sed -n 's/.*GLIBC_\([0-9.]*\).*/\1/p' | sort -V | tail -n 1
 }
 
 # pack_deb DIR: where there is dpkg-deb.

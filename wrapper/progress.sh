@@ -48,7 +48,7 @@ ticks_of() {
     local all='' rate name=${1##*/}
     shows_progress || return 0
     [[ ! -f $1 ]] || all=$(wc -l <"$1")
-    if [[ $program = draw ]]; then
+    if [[ $command = draw ]]; then
         ticks "draws ${name:-standard input}" "" "$room/answer" "$all"
     else
         rate=$(took "lines:${build#"$here/"}")

@@ -1,10 +1,10 @@
 # shellcheck shell=bash disable=SC2154 # (mpheap has the other names)
-# Part of the wrapper mpheap, read by it: which build of a program is run, and how it is run.
+# Part of the wrapper mpheap, read by it: which build of the program is run, and how it is run.
 
-# find_build: puts the build of the program into `build`, and says which it is: the proved one of what stands here, and else an unproved one.
+# find_build: puts the build that runs into `build`, and says which it is: the proved one of what stands here, and else an unproved one.
 find_build() {
-    build=$(built "$program")
-    if is_proved "$program"; then
+    build=$(built mpheap)
+    if is_proved mpheap; then
         note "the proved build"
         return
     fi
@@ -23,14 +23,14 @@ run_beside() {
     [[ -v given[--follow] ]] || ticks_of "$1"
     wait_for_child "$child" || status=$?
     end_progress
-    [[ $program != replay || -z $build ]] || keep_pace "$1" $((SECONDS - began))
+    [[ $command != replay || -z $build ]] || keep_pace "$1" $((SECONDS - began))
     return "$status"
 }
 
 # run_build: runs it, and ends with its status; in the place of this wrapper, where nothing is left to do beside it.
 run_build() {
     local status=0
-    if [[ $program != draw ]] && { [[ $program != replay ]] || ! shows_progress; }; then
+    if [[ $command != draw ]] && { [[ $command != replay ]] || ! shows_progress; }; then
         leave
         trap - HUP INT TERM
         exec "$build" "${words[@]}"
@@ -47,10 +47,9 @@ run_build() {
     answers $status
 }
 
-# run_program: what the words ask for, by one program and its FILE.
+# run_program: what the words ask for, by the program and its FILE.
 run_program() {
     local words build
-    program=${program_of[$command]}
     [[ -z $file ]] || look_at_file "$file"
     [[ -n $file ]] || ! reads_input "$command" || (: 3<&0) 2>/dev/null || bad_file "standard input is closed"
     program_words

@@ -48,19 +48,19 @@ record_of() {
     source_sums "$1" "$2" && sha256sum <"$3"
 }
 
-# is_package: no sources stand here, but the programs that were packed.
+# is_package: no sources stand here, but the program that was packed.
 is_package() {
-    [[ -d $here/programs ]]
+    [[ -f $here/program ]]
 }
 
-# built CRATE: where its proved build lies.
+# built CRATE: where the proved build of the program lies, or of the heap for C.
 built() {
     if is_package; then
-        echo "$here/programs/$1"
+        echo "$here/program"
     elif [[ $1 = mpheap_c ]]; then
         echo "$here/crates/mpheap_c/out/libmpheap_c.a"
     else
-        echo "$here/crates/$1/out/$1"
+        echo "$here/crates/mpheap/out/mpheap"
     fi
 }
 

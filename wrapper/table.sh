@@ -1,10 +1,10 @@
 # shellcheck shell=bash disable=SC2034,SC2154 # (mpheap has the other names, and reads these)
 # Part of the wrapper mpheap, read by it: the table of its words, wrapper/table, as it is read.
 
-# Of each command, in the order of the table: its name, its program, what it does, and which rows are its own. Of each row: its text in the
+# Of each command, in the order of the table: its name, what the program says last of bad words if it does the command, what it does, and which rows are its own. Of each row: its text in the
 # form, its name (an option's with its dashes), the name of its value (none: a flag), what it takes, and what it is.
 commands=()
-declare -A program_of=() does=() rows_of=()
+declare -A own_text_of=() does=() rows_of=()
 row_form=() row_name=() row_value=() row_takes=() row_says=()
 
 # add_row FORM TAKES SAYS: one more row of the last command.
@@ -32,7 +32,7 @@ read_table() {
             " "*) add_row "$first" "${second# }" "${third# }" ;;
             *)
                 commands+=("$first")
-                program_of[${first:-top}]=${second# }
+                own_text_of[${first:-top}]=${second# }
                 does[${first:-top}]=${third# }
                 rows_of[${first:-top}]=''
                 ;;
@@ -83,7 +83,7 @@ operand_of() {
 # reads_input COMMAND: it reads standard input where it is given no FILE.
 reads_input() {
     local at
-    [[ -n ${program_of[$1]} ]] && at=$(operand_of "$1") && may_lack "$at"
+    [[ -n ${own_text_of[$1]} ]] && at=$(operand_of "$1") && may_lack "$at"
 }
 
 # range_of AT: what a row takes, in words: nothing of a flag, a file and a folder, whose names say it.

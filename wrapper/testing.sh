@@ -1,17 +1,17 @@
 # shellcheck shell=bash disable=SC2034,SC2154 # (mpheap has the other names, and reads these)
-# Part of the wrapper mpheap, read by it: `test`, which runs what needs no proof, over proved builds where there are some of the sources
-# that stand here, and else over unproved ones. The last line counts what passed and failed, and before it stands what was left out.
+# Part of the wrapper mpheap, read by it: `test`, which runs what needs no proof, over a proved build where there is one of the sources
+# that stand here, and else over an unproved one. The last line counts what passed and failed, and before it stands what was left out.
 
-# Parts that want more than the four programs: what they need, besides tools that they miss themselves.
+# Parts that want more than the program: what they need, besides tools that they miss themselves.
 needs_python="many_runs random judged_runs record draw"
 needs_compiler="programs recording_header c gc"
 
 # run_tests: its status is 0 if nothing failed, and 1 if something did.
 run_tests() {
-    local part why left_out=() started=() running=() proved=() lanes
+    local part why build left_out=() started=() running=() lanes
     lanes=$(nproc)
     make_room
-    gather_builds
+    find_tested
     for part in gc c judged_runs programs viewer record random draw command_line rows recording_header many_runs entries; do
         why=$(why_not "$part")
         if [[ -z $why ]]; then start_part "$part"; else left_out+=("$part: $why"); fi
@@ -23,69 +23,27 @@ run_tests() {
     end_parts
 }
 
-# gather_builds: a folder with the four programs, of which the unproved ones are made, half as many at once as there are processors, since rt
-# takes two for each.
-gather_builds() {
-    local program lacking=()
-    mkdir "$room/programs"
-    for program in "${programs[@]}"; do
-        is_proved "$program" || is_kept "$program" || lacking+=("$program")
-    done
-    if [[ ${#lacking[@]} != 0 ]]; then
-        need_rt "a test of what isn't proved"
-        note "makes unproved builds, which later runs and tests take: ${lacking[*]}"
-        make_unproved_builds "${lacking[@]}"
+# find_tested: puts the build that is tested into `build`: the proved one, and else an unproved one.
+find_tested() {
+    build=$(built mpheap)
+    if is_proved mpheap; then
+        note "tests, of the proved build"
+        return
     fi
-    for program in "${programs[@]}"; do
-        if is_proved "$program"; then
-            ln -s "$(built "$program")" "$room/programs/$program"
-            proved+=("$program")
-        else
-            ln -s "$(unproved "$program")" "$room/programs/$program"
-        fi
-    done
-    note "tests, of proved builds: ${proved[*]:-none}; and else of unproved ones"
-}
-
-# make_unproved_builds PROGRAM..
-make_unproved_builds() {
-    local program one running=() lanes=$((($(nproc) + 1) / 2))
-    for program in "$@"; do
-        if ((${#running[@]} >= lanes)); then
-            wait "${running[0]}" || no_answer "there is no unproved build"
-            running=("${running[@]:1}")
-        fi
-        build_apart "$program" &
-        running+=($!)
-        child=${running[*]}
-    done
-    for one in "${running[@]}"; do
-        wait "$one" || no_answer "there is no unproved build"
-    done
-    child=''
-}
-
-# build_apart PROGRAM: makes and keeps an unproved build in a folder of its own.
-build_apart() {
-    trap leave EXIT
-    trap 'stop 143' TERM
-    child='' ticker=''
-    quiet=yes
-    room=$room/$1
-    mkdir "$room" && keep_unproved "$1" >/dev/null && exit
-    no_answer "no unproved build of $1 can be kept: 'mpheap build' makes proved ones, which can be tested"
+    build=$unproved
+    if ! is_kept; then
+        need_rt "a test of what isn't proved"
+        note "makes an unproved build, which later runs and tests take"
+        keep_unproved || no_answer "no unproved build can be kept: 'mpheap build' makes a proved one, which can be tested"
+    fi
+    note "tests, of an unproved build"
 }
 
 # why_not PART: why it can't run here, if it can't.
 why_not() {
-    local program
     case $1 in
         c | gc) is_proved mpheap_c || { echo "the heap for C isn't built: 'mpheap build c' builds it" && return; } ;;
-        judged_runs)
-            for program in record replay; do
-                is_in "$program" "${proved[*]}" || { echo "it takes minutes over an unproved $program: 'mpheap build $program' proves it" && return; }
-            done
-            ;;
+        judged_runs) is_proved mpheap || { echo "it takes minutes over an unproved build: 'mpheap build replay' makes a proved one" && return; } ;;
     esac
     if is_in "$1" "$needs_python" && ! command -v python3 >/dev/null; then
         echo "there is no python3"
@@ -104,7 +62,7 @@ start_part() {
     done
     for test in "$here/tests/$1.sh" "$here/tests/$1.py"; do
         [[ -x $test ]] || continue
-        MPHEAP_PROGRAMS=$room/programs TMPDIR=$room "$test" "${words[@]}" >"$room/said.$1" 2>&1 </dev/null &
+        MPHEAP_PROGRAM=$build TMPDIR=$room "$test" "${words[@]}" >"$room/said.$1" 2>&1 </dev/null &
         running+=($!)
         started+=("$1")
         child=${running[*]}

@@ -8,26 +8,16 @@ command='' file=''
 declare -A given=()
 operands=()
 
-# own_text: the last line of the program about bad words, if one does the command; mpheap does what is no command.
-own_text() {
-    case ${program_of[${command:-run}]} in
-        "") ;;
-        mpheap) echo "bad command" ;;
-        draw) echo "draw --pages N [--run] FILE" ;;
-        replay) echo "replay (--pages N | --bytes N) [--places any [--from ADDRESS]] [--why] FILE" ;;
-        *) form "$command" ;;
-    esac
-}
-
-# Says what is wrong with the words, how they are used, and last what the program says of them.
+# Says what is wrong with the words, how they are used, and last what the program says of them, which does what is no command.
 bad_words() {
+    local last=${own_text_of[${command:-run}]}
     say "$*"
     if [[ -n $command ]]; then
         printf "usage: mpheap %s\n'mpheap help %s' says more\n" "$(form "$command")" "$command" >&2
     else
         echo "'mpheap help' says how it is used" >&2
     fi
-    own_text >&2
+    [[ -z $last ]] || echo "$last" >&2
     answers 2
 }
 
@@ -160,8 +150,7 @@ look_at_range() {
 # program_words: puts the words for the program into `words`, FILE last, which has a name there that looks like no option.
 program_words() {
     local at name path
-    words=()
-    if [[ ${program_of[$command]} = mpheap ]]; then words=("$command"); fi
+    words=("$command")
     for at in ${rows_of[$command]}; do
         name=${row_name[at]}
         [[ -v given[$name] ]] || continue
@@ -171,7 +160,7 @@ program_words() {
         if [[ $name != --run ]] && ! is_flag "$at"; then words+=("$path"); fi
     done
     if [[ -n $file ]]; then words+=("$(as_path "$file")"); fi
-    if [[ $program = draw && -z $file ]]; then words+=(/dev/stdin); fi
+    if [[ $command = draw && -z $file ]]; then words+=(/dev/stdin); fi
 }
 
 as_path() {

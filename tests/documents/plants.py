@@ -68,7 +68,7 @@ def plant_all(judge, room):
 
 # Of the words of ./mpheap: the file, what is said, and the text that is put in the place of another.
 WORDS = (
-    ("wrapper/table", "'./mpheap record --pages N FILE' is no form", "record; record;", "recorded; record;"),
+    ("wrapper/table", "'./mpheap record --pages N FILE' is no form", "record; record --pages N FILE;", "recorded; record --pages N FILE;"),
     ("wrapper/table", "'--pages N' takes 1 to 4097", "--pages N; 1 4096 1;", "--pages N; 1 4097 1;"),
     ("wrapper/table", "its table lacks '--loud'", "    [--quiet];", "    [--loud]; ; says all\n    [--quiet];"),
     ("wrapper/table", "lacks './mpheap test WHAT'", "package; ;", "    WHAT; ; which\npackage; ;"),
@@ -96,9 +96,9 @@ def plant_words(judge, top, folder, documents):
 
 
 def plant_answer(judge):
-    """In the clone, where all is built: `replay`, run on an empty file while it is built, answers 2. That is told as no failed proof."""
-    with open(os.path.join(judge.top, "crates/replay/args"), "w", encoding="ascii") as file:
-        file.write("--pages\n1\n/dev/null\n")
-    status, out, said = judge.call("rm -r crates/replay/out && ./mpheap build replay")
-    is_noticed = status == 3 and "replay is proved and built, but runs otherwise" in said and "ended with status 2" in said and "replay: not proved" not in said
+    """In the clone, where all is built: the program, which judges an empty file while it is built, answers 2. That is told as no failed proof."""
+    with open(os.path.join(judge.top, "crates/mpheap/args"), "w", encoding="ascii") as file:
+        file.write("replay\n--pages\n1\n/dev/null\n")
+    status, out, said = judge.call("rm -r crates/mpheap/out && ./mpheap build replay")
+    is_noticed = status == 3 and "mpheap is proved and built, but runs otherwise" in said and "ended with status 2" in said and "mpheap: not proved" not in said
     judge.judge("planted: a program that answers 2 while it is built", "" if is_noticed else f"not noticed: status {status}: {out}{said}")

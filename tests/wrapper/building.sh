@@ -2,7 +2,7 @@
 # Part of tests/wrapper.sh, read by it: what `build` makes and says, when a build is called proved, and `install`.
 
 made_by_build() {
-    printf "mpheap: the proved build is $tree/crates/%s/out/%s\n" mpheap mpheap replay replay record record draw draw
+    echo "mpheap: the proved build is $tree/crates/mpheap/out/mpheap"
     echo "mpheap: a program in C: cc -I$tree/include program.c $tree/crates/mpheap_c/out/libmpheap.a"
     echo "mpheap: a program that was written for bdwgc: LD_PRELOAD=$tree/out/libmpgc.so PROGRAM"
 }
@@ -10,14 +10,14 @@ made_by_build() {
 build_shows_its_way() {
     call build
     is "a build: status" 0 "$status"
-    is "a build: a line of output for each program, for C and for libmpgc" "$(made_by_build)" "$out"
+    is "a build: a line of output for the program, for C and for libmpgc" "$(made_by_build)" "$out"
     is "a build: the archive and libmpgc" "yes yes" \
         "$(test -f "$tree/crates/mpheap_c/out/libmpheap.a" && echo yes) $(test -f "$tree/out/libmpgc.so" && echo yes)"
     has "a build: how long, beforehand" "minutes" "$(head -n 1 "$room/err")"
     is "a build: rt's two calls, the second of them for the library" "$(lines "tree ci" "library ci")" "$(calls)"
     is "a build: that the library's crates are proved elsewhere too, what was made, and no progress where there is no terminal" \
         "$(lines "mpheap: the heap for C begins at an address of its own: what it is made from is proved there too, where that isn't kept" \
-            "mpheap: made: mpheap replay record draw c gc")" "$(tail -n +2 "$room/err")"
+            "mpheap: made: mpheap c gc")" "$(tail -n +2 "$room/err")"
     has "a build: how long each crate took is kept" "words " "$(cat "$tree/out/took")"
     lacks "a build: no crate that isn't below" "elsewhere " "$(cat "$tree/out/took")"
     call build
@@ -29,8 +29,9 @@ build_shows_its_way() {
 parts_are_built_alone() {
     rm -rf "$tree"/crates/*/out "$tree/out"
     call build replay
-    is "build replay: status and what is made" "0 mpheap: the proved build is $tree/crates/replay/out/replay" "$status $out"
-    lacks "build replay: not what only others need" "workloads " "$(cat "$tree/out/took")"
+    is "build replay: status and what is made" "0 mpheap: the proved build is $tree/crates/mpheap/out/mpheap" "$status $out"
+    lacks "build replay: not the heap for C" "mpheap_c " "$(cat "$tree/out/took")"
+    rm -rf "$tree"/crates/*/out "$tree/out"
     call build c --quiet
     is "build c: status, and --quiet" "0 " "$status $err"
     lacks "build c: no program" "command_line " "$(cat "$tree/out/took")"
@@ -38,15 +39,15 @@ parts_are_built_alone() {
     call build gc
     is "build gc: over what is proved" "0 " "$status $(calls)"
     is "build gc: libmpgc" yes "$(test -f "$tree/out/libmpgc.so" && echo yes || echo no)"
-    call build run stress threads
-    is "build run stress threads: one program" "mpheap: the proved build is $tree/crates/mpheap/out/mpheap" "$(sort -u <<<"$out")"
+    call build run stress threads record replay draw
+    is "build run stress threads record replay draw: one program" "mpheap: the proved build is $tree/crates/mpheap/out/mpheap" "$(sort -u <<<"$out")"
     CC=no-compiler call build record
     is "no compiler: a program" 0 "$status"
     CC=no-compiler call build c
     is "no compiler: the heap for C" 3 "$status"
     has "no compiler: how it is tried again" "again by '$tree/c/archive" "$err"
     CC=no-compiler call build
-    is "no compiler: the programs alone" 0 "$status"
+    is "no compiler: the program alone" 0 "$status"
     has "no compiler: what isn't built" "c and gc aren't built" "$err"
 }
 
@@ -71,7 +72,7 @@ proved_is_said_where_it_is_true() {
     is "the program's errors" complained "$(tail -n 1 "$room/err")"
     is "the program's status" 2 "$status"
     call replay --pages 4 first.script
-    is "another program's words" "replay|$PWD|--pages 4 first.script" "$(cat "$room/seen/program")"
+    is "a command on a file: its words" "mpheap|$PWD|replay --pages 4 first.script" "$(cat "$room/seen/program")"
     echo "0 get 1" | "$wrapper" draw --pages 4 >"$room/out" 2>"$room/err"
     is "draw: a script from standard input" "0 get 1" "$(input)"
     no_file "there is no file 'missing'" run --pages 4 missing
@@ -100,13 +101,14 @@ proved_is_said_where_it_is_true() {
     touch "$tree/crates/mpheap/src/new.rt"
     runs_unproved "a new source"
     rm "$tree/crates/mpheap/src/new.rt"
+    cp -p "$tree/crates/mpheap/out/mpheap" "$room/kept"
     echo "# more" >>"$tree/crates/mpheap/out/mpheap"
     runs_unproved "another program in its place"
-    echo "// more" >>"$tree/crates/replay/src/main.rt"
-    call record --pages 4 first.script
-    is "an edit of another program" "mpheap: the proved build" "$(head -n 1 "$room/err")"
+    mv "$room/kept" "$tree/crates/mpheap/out/mpheap"
+    runs_proved "the program put back"
+    echo "// more" >>"$tree/crates/replay/src/lib.rt"
     call replay --pages 4 first.script
-    has "an edit of this program: out of date" "out of date" "$(head -n 1 "$room/err")"
+    has "an edit of a command's library: out of date" "out of date" "$(head -n 1 "$room/err")"
 }
 
 the_heap_for_c_is_copied() {
@@ -129,14 +131,14 @@ the_heap_for_c_is_copied() {
 failed_builds_prove_nothing() {
     rm -rf "$tree"/crates/*/out
     echo tracing >"$room/says/refused"
-    call build run replay record draw
+    call build draw gc
     is "a refused crate: status" 3 "$status"
     has "a refused crate: which" "tracing is refused by rt" "$err"
     has "a refused crate: why" "a goal is open" "$err"
     lacks "a refused crate: no more than why" "first: proved" "$err"
     has "a refused crate: where, and how again" "its folder is $tree/crates/tracing; again by 'cd $tree/crates/tracing && rt check'" "$err"
     has "a refused crate: what stands on it" "draw: not tried, as tracing failed" "$err"
-    has "a refused crate: what was made" "mpheap: made: run replay record"$'\n' "$err"
+    has "a refused crate: what was made" "mpheap: made: gc"$'\n' "$err"
     is "a refused crate: what wasn't" "mpheap: not made: draw" "$(tail -n 1 "$room/err")"
     rm "$room/says/refused"
     echo "rt: cannot read crates.txt" >"$room/says/stops"
@@ -144,7 +146,7 @@ failed_builds_prove_nothing() {
     call build replay
     is "rt itself stops: status" 3 "$status"
     has "rt itself stops: why" "cannot read crates.txt" "$err"
-    has "rt itself stops: how again" "mpheap: rt judged nothing: again by 'cd $tree && rt ci replay'" "$err"
+    has "rt itself stops: how again" "mpheap: rt judged nothing: again by 'cd $tree && rt ci mpheap'" "$err"
     rm "$room/says/stops"
     printf '#!/bin/sh\necho "// more" >>%s/crates/pages/src/lib.rt\n' "$tree" >"$room/says/first"
     chmod +x "$room/says/first"
@@ -160,16 +162,16 @@ failed_builds_prove_nothing() {
 # A program that answers 2 where rt runs it is proved and built: it isn't told as a failed proof.
 a_programs_answer_is_no_failed_proof() {
     rm -rf "$tree"/crates/*/out
-    echo "rt: replay: the program ended with status 2, and not 0; it said: no lines" >"$room/says/ran"
-    call build replay record
+    echo "rt: mpheap: the program ended with status 2, and not 0; it said: no lines" >"$room/says/ran"
+    call build replay
     rm "$room/says/ran"
     is "a program that answers otherwise: status" 3 "$status"
     lacks "a program that answers otherwise: its proof stands" "not proved" "$err"
-    has "a program that answers otherwise: which of the two it was" "replay is proved and built, but runs otherwise" "$err"
+    has "a program that answers otherwise: which of the two it was" "mpheap is proved and built, but runs otherwise" "$err"
     has "a program that answers otherwise: its answer" "ended with status 2, and not 0; it said: no lines" "$err"
     has "a program that answers otherwise: where, and how again" \
-        "its folder is $tree/crates/replay; again by 'cd $tree && rt ci replay'" "$err"
-    has "a program that answers otherwise: it is built" "the proved build is $tree/crates/replay/out/replay" "$out"
+        "its folder is $tree/crates/mpheap; again by 'cd $tree && rt ci mpheap'" "$err"
+    has "a program that answers otherwise: it is built" "the proved build is $tree/crates/mpheap/out/mpheap" "$out"
 }
 
 a_stopped_build_leaves_nothing() {
@@ -193,7 +195,7 @@ long_work_shows_progress() {
     printf '%s\n' words >"$room/says/kept"
     script -qec "'$wrapper' build replay" /dev/null </dev/null >"$room/out" 2>&1
     local crates
-    crates=$(sed -n 's/.*proves \([0-9]*\) crates and builds replay.*/\1/p' "$room/out")
+    crates=$(sed -n 's/.*proves \([0-9]*\) crates and builds mpheap.*/\1/p' "$room/out")
     has "a terminal: how far a build is, of how many crates, and what is left" \
         "mpheap: 1 of $crates, words, about $((2 * crates - 2)) min left by what earlier builds took" "$(cat "$room/out")"
     rm -rf "$tree"/crates/*/out
@@ -202,11 +204,11 @@ long_work_shows_progress() {
     rm "$room/says/kept"
     rm -f "$room/says/elsewhere"
     rm -rf "$tree"/crates/*/out
-    echo "unproved-mpheap 43" >>"$tree/out/took"
+    echo "unproved 43" >>"$tree/out/took"
     printf '#!/bin/sh\nsleep 2.5\n' >"$room/says/first"
     chmod +x "$room/says/first"
     script -qec "'$wrapper' run --pages 4 first.script" /dev/null </dev/null >"$room/out" 2>&1
-    shows "a terminal: how far an unproved build is" "mpheap: makes an unproved build of mpheap: [1-9] s, of about 43" "$(cat "$room/out")"
+    shows "a terminal: how far an unproved build is" "mpheap: makes an unproved build: [1-9] s, of about 43" "$(cat "$room/out")"
     rm "$room/says/first"
     long_runs_show_progress
     call build
@@ -228,7 +230,7 @@ long_runs_show_progress() {
     lines attach "0 get 1" attach >three.run
     try_ends 0 $'{"title":"a script"}\n{"c":"attach","r":"mutator 0"}\n{"c":"0 get 1","r":"0"}\n'
     call draw --pages 4 three.run
-    echo "lines:crates/replay/out/unproved/replay 9000000" >>"$tree/out/took"
+    echo "lines:crates/mpheap/out/unproved/mpheap 9000000" >>"$tree/out/took"
     call replay --pages 4 three.run
     touch "$room/says/slow"
     shows "a terminal: how far draw is" "draws three.run: 2 of 3 lines, [1-9] s" "$(on_terminal page draw three.run --pages 4)"

@@ -15,10 +15,6 @@ the_other_way_is_found() {
     has "another layout: why" "made for this one run, since this rt lets none be kept" "$err"
     call run --pages 4 first.script
     is "another layout, again: rt's calls" "mpheap try -- run --pages 4 /dev/stdin" "$(calls)"
-    for program in replay record draw; do
-        mkdir -p "$tree/crates/$program/out/unproved"
-        cp "$room/says/version" "$tree/crates/$program/out/unproved/$program.once"
-    done
 }
 
 # What rt's own run of an unproved program can't do is said before it builds, where that is known.
@@ -47,15 +43,14 @@ words_stay_as_they_are() {
     rm run 4 ./--pages
 }
 
-# each_program_is_called_by_its_name: the programs on runs that were written down have no command among their words.
-each_program_is_called_by_its_name() {
-    local program
-    for program in record replay; do
+each_command_is_called_by_its_name() {
+    local word
+    for word in record replay; do
         try_ends 0 $'legal\n'
-        call "$program" --pages 4 first.script
-        is "$program: its crate and words" "$program try -- --pages 4 /dev/stdin" "$(calls)"
-        is "$program: its text" attach "$(input)"
-        is "$program: what it prints" legal "$out"
+        call "$word" --pages 4 first.script
+        is "$word: its words" "mpheap try -- $word --pages 4 /dev/stdin" "$(calls)"
+        is "$word: its text" attach "$(input)"
+        is "$word: what it prints" legal "$out"
     done
 }
 
@@ -63,7 +58,7 @@ each_program_is_called_by_its_name() {
 a_drawn_run_is_a_page() {
     try_ends 0 $'{"title":"a script"}\n{"c":"attach","r":"<"}\n'
     call draw --pages 4 first.script
-    is "draw: its crate and words" "draw try -- --pages 4 /dev/stdin" "$(calls)"
+    is "draw: its words" "mpheap try -- draw --pages 4 /dev/stdin" "$(calls)"
     is "draw: the page" "<!doctype html>" "$(printf '%s' "${out%%$'\n'*}" | tr '[:upper:]' '[:lower:]')"
     has "draw: the trace is in it" '{"c":"attach","r":"\u003c"}' "$out"
     has "draw: its title is FILE's name, and from what it comes" \
@@ -77,12 +72,12 @@ a_drawn_run_is_a_page() {
     is "draw: no line, no page" "" "$out"
     echo "0 get 1" >"$room/script"
     call draw --pages 4 <"$room/script"
-    is "draw: a script from standard input" "draw try -- --pages 4 /dev/stdin|0 get 1" "$(calls)|$(input)"
+    is "draw: a script from standard input" "mpheap try -- draw --pages 4 /dev/stdin|0 get 1" "$(calls)|$(input)"
     try_ends 1 $'{"title":"a run"}\n{"c":"attach","r":"mutator 1","no":1}\n' "line 1: a mutator gets the lowest free slot"
     mv first.script first.replay
     call draw --pages 4 --run first.replay
     mv first.replay first.script
-    is "draw --run: its crate and words" "draw try -- --pages 4 --run /dev/stdin" "$(calls)"
+    is "draw --run: its words" "mpheap try -- draw --pages 4 --run /dev/stdin" "$(calls)"
     is "draw --run: the status of a line that is refused" 1 "$status"
     has "draw --run: what is said of it" "line 1: a mutator gets the lowest free slot" "$err"
     has "draw --run: the page" '{"c":"attach","r":"mutator 1","no":1}' "$out"

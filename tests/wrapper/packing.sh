@@ -32,7 +32,7 @@ a_package_is_made() {
     stage=$room/packed/mpheap-0.1
     is "package: the wrong bodies of which the gate told" "first.edit " "$(refused_in "$stage/$sources")"
     is "package: those of which it didn't, or of other texts" "fourth.edit second.edit third.edit " "$(unknown_in "$stage/$sources")"
-    is "package: the rules of proof" "$(cat "$room/says/version")" "$(sed -n 's/^  replay: //p' "$stage/$sources")"
+    is "package: the rules of proof" "$(cat "$room/says/version")" "$(sed -n 's/^  mpheap: //p' "$stage/$sources")"
     is "package: its completion and pages" "$(lines "$stage"/share/{bash-completion/completions/mpheap,man/man1/mpheap.1,man/man3/libmpgc.3})" \
         "$(find "$stage/share/bash-completion" "$stage/share/man" -type f | sort)"
     is "package: its version" "$(lines "mpheap 0.1" "commit: unknown" "rules of proof: $(cat "$room/says/version")")" "$("$stage/bin/mpheap" --version)"

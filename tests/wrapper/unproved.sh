@@ -60,11 +60,11 @@ a_kept_build_is_called_as_it_is() {
     has "draw: the page" '{"c":"attach"}' "$(cat "$room/out")"
     call draw --pages 4 first.script
     is "draw: the kept build, with its status" "2 " "$status $(calls)"
-    is "draw: its words" "$(lines --pages 4 first.script)" "$(words)"
+    is "draw: its words" "$(lines draw --pages 4 first.script)" "$(words)"
     try_ends 0 $'legal\n'
     cp first.script ./--why
     call replay --pages 4 -- --why
-    is "a FILE that looks like an option: the program's words" "$(lines --pages 4 ./--why)" "$(words)"
+    is "a FILE that looks like an option: the program's words" "$(lines replay --pages 4 ./--why)" "$(words)"
     rm ./--why
     try_ends 0 $'mutator 0\n'
     rm -f "$room"/seen/*
@@ -73,7 +73,7 @@ a_kept_build_is_called_as_it_is() {
     try_ends 0 $'mutator 0\n'
 }
 
-# of_replay STATUS REPLIES: what the kept build of `replay` answers, beside what the other programs do.
+# of_replay STATUS REPLIES: what the kept build answers as `replay`, beside what it does as other commands.
 of_replay() {
     mkdir -p "$room/says/replay"
     echo "$1" >"$room/says/replay/status"
@@ -92,7 +92,7 @@ a_refused_run_is_told() {
     call draw --pages 1 --run first.run
     call draw --pages 1 --run first.run
     is "a refused run: status, what is said" "1 $(lines "mpheap: an unproved build, which an earlier run made of these sources: for a first look" "$told")" "$status $err"
-    is "a refused run: what replay is given" "$(lines --pages 1 first.run)" "$(words)"
+    is "a refused run: what replay is given" "$(lines replay --pages 1 first.run)" "$(words)"
     has "a refused run: the page" '"no":3,"says":["object 8 was taken, but \\\"x\" points into it","register 1 points into it","a rule","it has to stay"],"about":0}' "$out"
     has "a refused run: from what the page comes" '"source":"the run first.run on 1 page, by an unproved build, commit unknown"' "$out"
     has "a refused run: the lines before" '{"c":"attach","r":"mutator 0"}' "$out"
@@ -106,7 +106,7 @@ a_refused_run_is_told() {
     rm -r "$room/says/replay" first.run
 }
 
-# A program takes the place of the wrapper, and a signal ends it.
+# The program takes the place of the wrapper, and a signal ends it.
 a_signal_ends_a_kept_build() {
     mkfifo "$room/slow"
     sleep 60 >"$room/slow" &

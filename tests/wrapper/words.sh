@@ -84,7 +84,7 @@ a_manual_is_there() {
 nothing_is_made_before_a_build() {
     call package "$room/packed"
     is "package before a build: status" 3 "$status"
-    has "package before a build: what to do" "not built of the sources that stand here: mpheap replay record draw mpheap_c; 'mpheap build'" "$err"
+    has "package before a build: what to do" "not built of the sources that stand here: mpheap mpheap_c; 'mpheap build'" "$err"
     is "package before a build: nothing is made" no "$(test -e "$room/packed" && echo yes || echo no)"
     call install "$room/prefix"
     is "install before a build: status" 3 "$status"
@@ -99,9 +99,9 @@ given() {
     is "${*:2}: the text of FILE" attach "$(input)"
 }
 
-# Options and FILE stand in any order, and the programs are given them in theirs.
+# Options and FILE stand in any order, and the program is given them in its own.
 words_come_in_any_order() {
-    local program file
+    local word file
     echo attach >first.script
     try_ends 0 $'legal\n'
     given "mpheap try -- run --pages 4 /dev/stdin" run first.script --pages 4
@@ -109,28 +109,28 @@ words_come_in_any_order() {
     given "mpheap try -- run --pages 4 /dev/stdin" run --pages 4 -- first.script
     given "mpheap try -- run --pages 4 /dev/stdin" --quiet run first.script --quiet --pages 4
     given "mpheap try -- threads --pages 4 --helpers 2 /dev/stdin" threads first.script --helpers=2 --pages 4
-    for program in record draw; do
-        given "$program try -- --pages 4 /dev/stdin" "$program" first.script --pages 4
-        given "$program try -- --pages 4 /dev/stdin" "$program" --pages=4 first.script
+    for word in record draw; do
+        given "mpheap try -- $word --pages 4 /dev/stdin" "$word" first.script --pages 4
+        given "mpheap try -- $word --pages 4 /dev/stdin" "$word" --pages=4 first.script
     done
-    given "draw try -- --pages 4 --run /dev/stdin" draw --run first.script --pages 4
-    given "draw try -- --pages 4 --run /dev/stdin" draw --run=first.script --pages=4
-    given "replay try -- --pages 4 --places any --why /dev/stdin" replay --why first.script --places any --pages 4
-    given "replay try -- --pages 4 --places classes /dev/stdin" replay --places=classes --pages 4 first.script
-    given "replay try -- --bytes 8192 --places any --from 140737488289792 /dev/stdin" \
+    given "mpheap try -- draw --pages 4 --run /dev/stdin" draw --run first.script --pages 4
+    given "mpheap try -- draw --pages 4 --run /dev/stdin" draw --run=first.script --pages=4
+    given "mpheap try -- replay --pages 4 --places any --why /dev/stdin" replay --why first.script --places any --pages 4
+    given "mpheap try -- replay --pages 4 --places classes /dev/stdin" replay --places=classes --pages 4 first.script
+    given "mpheap try -- replay --bytes 8192 --places any --from 140737488289792 /dev/stdin" \
         replay first.script --bytes 8192 --from 140737488289792 --places any
-    given "replay try -- --bytes 16777216 --places any --from 18446744073692774392 /dev/stdin" \
+    given "mpheap try -- replay --bytes 16777216 --places any --from 18446744073692774392 /dev/stdin" \
         replay --places any --from 18446744073692774392 --bytes 16777216 first.script
-    given "replay try -- --pages 4096 --places any --from 8 /dev/stdin" replay --places any --from 8 --pages 4096 first.script
-    given "replay try -- --bytes 4096 --places any /dev/stdin" replay --places any --bytes 4096 first.script
+    given "mpheap try -- replay --pages 4096 --places any --from 8 /dev/stdin" replay --places any --from 8 --pages 4096 first.script
+    given "mpheap try -- replay --bytes 4096 --places any /dev/stdin" replay --places any --bytes 4096 first.script
     for file in --why -x --; do
         cp first.script "./$file"
-        given "replay try -- --pages 4 /dev/stdin" replay --pages 4 -- "$file"
+        given "mpheap try -- replay --pages 4 /dev/stdin" replay --pages 4 -- "$file"
         rm "./$file"
     done
 }
 
-# The limits of the table are those of the programs, as crates/words/src/limits.rt and crates/workloads/src/limits.rt have them.
+# The limits of the table are those of the program, as crates/words/src/limits.rt and crates/workloads/src/limits.rt have them.
 limits_are_the_programs() {
     local name limit
     for name in --pages:MAX_PAGES --helpers:MAX_HELPERS --mutators:SLOTS --steps:MAX_STEPS; do

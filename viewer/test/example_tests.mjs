@@ -7,9 +7,9 @@ import { dirname, join } from 'node:path';
 import { fileURLToPath } from 'node:url';
 
 const crates = join(dirname(fileURLToPath(import.meta.url)), '..', '..', 'crates');
-const build = join(process.env.MPHEAP_PROGRAMS || join(crates, 'draw', 'out'), 'draw');
+const build = process.env.MPHEAP_PROGRAM || join(crates, 'mpheap', 'out', 'mpheap');
 
-// where a build of draw is, or null
+// where a build is, or null
 export const findDraw = () => (existsSync(build) ? build : null);
 
 export const isOfCore = ({ source }) => source === 'draw: the proved core';
@@ -19,6 +19,6 @@ export function drawWritesTheSame(draw, text, room) {
   const script = lines.map((line) => JSON.parse(line).c + '\n').join('');
   const file = join(room, 'script');
   writeFileSync(file, script);
-  const drawn = execFileSync(draw, ['--pages', String(JSON.parse(about).pages), file], { encoding: 'utf8' });
+  const drawn = execFileSync(draw, ['draw', '--pages', String(JSON.parse(about).pages), file], { encoding: 'utf8' });
   assert.deepEqual(drawn.trim().split('\n').slice(1), lines);
 }

@@ -3,10 +3,10 @@ ghost use Rattle.std.specs.Prelude.{◌≡◌, IfOk, IfErr};
 ghost use Rattle.programs.specs.declared.fault.Fault.TheVariants.{BadCommand};
 ghost use Rattle.command_line.specs.Requests.{CanBeDone, MayBeRead};
 
-use crate::arguments::{command_line, helpers_given, number_given, pages_given, refused};
-use clap::{ArgMatches, Error};
+use crate::arguments::{command_line, helpers_given};
+use clap::ArgMatches;
 use final_pause::Helpers;
-use programs::Fault;
+use programs::{Fault, file_given, number_given, pages_given, words_read};
 use std::alloc::Global;
 use std::convert::AsStr;
 use words::limits::SLOTS;
@@ -50,9 +50,7 @@ fn threads_given<'a>(given: &ArgMatches<'a>) -> Result<Request<'a>, Fault>
 {
     let pages = pages_given(given)?;
     let helpers = helpers_given(given)?;
-    let Some(path) = given.get_str("file") else {
-        return Err(Fault::BadCommand);
-    };
+    let path = file_given(given)?;
     match given.get_str("record") {
         Some(history) => Ok(Request::Record(pages, helpers, path, history)),
         None => Ok(Request::Threads(pages, helpers, path)),
@@ -87,11 +85,6 @@ fn given<'a>(words: &ArgMatches<'a>) -> Result<Request<'a>, Fault>
     Err(Fault::BadCommand)
 }
 
-// The words, as they are read.
-fn matches<'a, S: AsStr>(alloc: Global, words: &'a [S]) -> Result<ArgMatches<'a>, Error> {
-    command_line(alloc)?.try_get_matches_from(words)
-}
-
 /// What the words ask for, without the program's own name.
 ///
 /// # Errors
@@ -100,8 +93,8 @@ fn matches<'a, S: AsStr>(alloc: Global, words: &'a [S]) -> Result<ArgMatches<'a>
 pub fn read_words<'a, S: AsStr>(alloc: Global, words: &'a [S]) -> Result<Request<'a>, Fault>
     ensures { MayBeRead result }
 {
-    match matches(alloc, words) {
+    match words_read(command_line(alloc), words) {
         Ok(words) => given(&words),
-        Err(error) => Err(refused(&error)),
+        Err(fault) => Err(fault),
     }
 }

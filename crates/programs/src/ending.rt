@@ -1,8 +1,9 @@
 //! How the program ends.
-ghost use Rattle.programs.specs.Faults.{EndsBy, Ends};
+ghost use Rattle.std.specs.Prelude.{◌≡◌, IfOk, IfErr, OnOk};
+ghost use Rattle.programs.specs.Faults.{EndsBy, Ends, status_of};
 
 use crate::fault::Fault;
-use scripts::Sink;
+use scripts::{Sink, write_all};
 
 // Ends with a fault, whose line is told.
 fn end_by<E: Sink>(fault: Fault, errors: &mut E) -> u8
@@ -21,6 +22,22 @@ pub fn end<E: Sink>(answer: Result<(), Fault>, errors: &mut E) -> u8
 {
     match answer {
         Ok(()) => 0,
+        Err(fault) => end_by(fault, errors),
+    }
+}
+
+/// The status of a command that answers one of its own, after a fault is told: of bad words, how the command is used.
+pub fn end_with_usage<E: Sink>(answer: Result<u8, Fault>, usage: &str, errors: &mut E) -> u8
+    ensures own { IfOk answer (λ status. result ≡ status) }
+    ensures silent { OnOk answer (errors.new ≡ errors.old) }
+    ensures fault { IfErr answer (λ fault. result ≡ status_of fault) }
+{
+    match answer {
+        Ok(status) => status,
+        Err(Fault::BadCommand) => {
+            let _ = write_all(errors, usage.as_bytes());
+            Fault::BadCommand.status()
+        }
         Err(fault) => end_by(fault, errors),
     }
 }

@@ -1,17 +1,21 @@
-//! What all programs do around their work: the words that they are given, how a program ends, and what is told of a fault.
+//! What all commands do around their work: the words that they are given and the options among them, how the program ends, and what is told of
+//! a fault.
 //!
 //! # What is proved
 //!
-//! `end` is the status of each fault, 2 for bad words and bad lines and 1 for any other, with its line told (`Ends`).
+//! `end` is the status of each fault, 2 for bad words and bad lines and 1 for any other, with its line told (`Ends`), and
+//! `end_with_usage` that status, or the one that a command answers itself.
 //! `Fault::of_read` is `no memory` exactly where memory was refused, and else a read fault, and `Fault::of_write` likewise a
-//! write fault; `own_words` fails only with refused memory or bad words, and `takes_option` takes the third of four words away or
-//! leaves all as they are.
+//! write fault; `own_words` and `words_read` fail only with refused memory or bad words. `number_given` and `pages_given` give numbers of their ranges
+//! alone. Which words a command takes is only tested.
 #![tactic(auto)]
 
 mod ending;
 mod fault;
+mod options;
 mod program_words;
 
-pub use ending::end;
+pub use ending::{end, end_with_usage};
 pub use fault::Fault;
-pub use program_words::{own_words, takes_option};
+pub use options::{bare_command, file_given, number_given, option, pages_given, words_read};
+pub use program_words::own_words;

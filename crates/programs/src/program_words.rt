@@ -1,6 +1,5 @@
 //! The words that a program is given.
-ghost use Rattle.std.specs.Prelude.{◌≡◌, ◌⊎◌, IfErr, false, true, length};
-ghost use Rattle.std.specs.List.{remove};
+ghost use Rattle.std.specs.Prelude.{◌≡◌, ◌⊎◌, IfErr};
 ghost use Rattle.programs.specs.declared.fault.Fault.TheVariants.{BadCommand, Memory};
 
 use crate::fault::Fault;
@@ -30,16 +29,4 @@ pub fn own_words<R: Env + AllocGlobal>(rt: &R) -> Result<Vec<String>, Fault>
         Ok(own) => Ok(own),
         Err(_) => Err(Fault::Memory),
     }
-}
-
-/// Takes an option away that stands alone before the last of four words, and says whether it stood there.
-pub fn takes_option(words: &mut Vec<String>, option: &str) -> bool
-    ensures stays { result ≡ false → words.new ≡ words.old }
-    ensures taken { result ≡ true → (length words.old.items ≡ 4) × (words.new.items ≡ remove words.old.items 2) }
-{
-    if words.len() != 4 || words[2].as_str() != option {
-        return false;
-    }
-    let _ = words.remove(2);
-    true
 }

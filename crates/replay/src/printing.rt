@@ -1,24 +1,10 @@
-//! The program that checks a written run: `replay --pages N FILE` says `legal, N lines`, or which line isn't and what rule it breaks.
-//! With `--places any` objects may lie anywhere, in a heap of `--bytes N` from `--from ADDRESS` on, and with `--why` it also shows a path
-//! from a root to an object that has to stay.
-//!
-//! The lines of FILE are those of docs/REPLAY.md.
-#![tactic(auto)]
+//! What is printed of a run: whether it is legal, or which line isn't and what that line did.
 
-ghost use Rattle.std.specs.Prelude.{◌≤◌};
-ghost use Rattle.words.specs.declared.limits.TheConstants.{MAX_PAGES};
-ghost use Rattle.written_runs.specs.Ranges.{HasRange};
-
-mod options;
-
-use crate::options::{Asked, read_words};
+use crate::options::Asked;
 use plain_core::PathStep;
-use programs::{Fault, end, own_words};
+use programs::Fault;
 use retelling::{Journal, first_text, hop_text};
-use scripts::Std;
-use std::fs;
-use std::process::ExitCode;
-use written_runs::{Explained, Judgement, Verdict, explain, reply_text, wrong_text};
+use written_runs::{Explained, Judgement, Verdict, reply_text, wrong_text};
 
 // Prints what is said of a run, and gives the status that goes with it.
 fn print_verdict(rt: &HostRuntime, verdict: Verdict) -> Result<u8, Fault> {
@@ -96,7 +82,7 @@ fn print_path(
 fn print_deed(
     rt: &HostRuntime,
     line: u64,
-    asked: &Asked,
+    asked: &Asked<'_>,
     text: &str,
     said: &Explained,
 ) -> Result<(), Fault> {
@@ -120,10 +106,10 @@ fn print_deed(
     Ok(())
 }
 
-// Prints all that is said of a run, and gives the status that goes with it.
-fn print_explained(
+/// Prints all that is said of a run, and gives the status that goes with it.
+pub(crate) fn print_explained(
     rt: &HostRuntime,
-    asked: &Asked,
+    asked: &Asked<'_>,
     text: &str,
     said: &Explained,
 ) -> Result<u8, Fault> {
@@ -136,41 +122,4 @@ fn print_explained(
     print_expected(rt, line, &said.judgement)?;
     print_wrong(rt, line, &said.judgement)?;
     Ok(status)
-}
-
-// Checks the run in a file, and gives the status that goes with what is said of it.
-fn check(rt: &HostRuntime, asked: Asked, file: &str) -> Result<u8, Fault>
-    requires { (1 ≤ asked.pages) × (asked.pages ≤ MAX_PAGES) × HasRange asked.places asked.pages }
-{
-    let text = match fs::read_to_string(rt, file) {
-        Ok(text) => text,
-        Err(error) => return Err(Fault::of_read(&error)),
-    };
-    match explain(rt.alloc(), asked.pages, asked.places, text.as_str(), true) {
-        Ok(said) => print_explained(rt, &asked, text.as_str(), &said),
-        Err(_) => Err(Fault::Memory),
-    }
-}
-
-// Does what the words say.
-fn obey(rt: &HostRuntime) -> Result<u8, Fault> {
-    let words = own_words(rt)?;
-    let Some((asked, file)) = read_words(words.as_slice()) else {
-        return Err(Fault::BadCommand);
-    };
-    check(rt, asked, file)
-}
-
-fn main(rt: HostRuntime) -> ExitCode {
-    let status = match obey(&rt) {
-        Ok(status) => status,
-        Err(Fault::BadCommand) => {
-            let _ = eprintln!(rt;
-                "replay (--pages N | --bytes N) [--places any [--from ADDRESS]] [--why] FILE"
-            );
-            Fault::BadCommand.status()
-        }
-        Err(fault) => end(Err(fault), &mut Std::new(rt.stderr())),
-    };
-    ExitCode::from(status)
 }

@@ -1,18 +1,16 @@
-//! An example: a script is run on a heap, and its run is written down for the checker.
-//!
-//! `record --pages N FILE` prints the lines of docs/REPLAY.md. A reply doesn't say where an object went, nor which ones a
-//! collection forgot; the heap is asked for both by calls that are no events ([`recording::Recorder`]).
-#![tactic(auto)]
+//! A run that is written down: what is printed of each line of its script.
+ghost use Rattle.std.specs.Prelude.{◌≤◌};
+ghost use Rattle.words.specs.declared.limits.TheConstants.{MAX_PAGES};
 
+use crate::options::Asked;
 use heap_core::Core;
-use programs::{Fault, end, own_words};
+use programs::Fault;
 use recording::Recorder;
+use scripts::command;
 use scripts::limits::LINE_BYTES;
-use scripts::{Std, command};
 use std::alloc::Global;
 use std::fs;
-use std::process::ExitCode;
-use written_runs::{line_text, words_given};
+use written_runs::line_text;
 
 // The line that is written of a command, which is the line of this number in its script.
 fn written(
@@ -50,35 +48,17 @@ fn print_run(rt: &HostRuntime, recorder: &mut Recorder, script: &str) -> Result<
     Ok(())
 }
 
-// Runs the script of a file on a new heap.
-fn record(rt: &HostRuntime, pages: u32, file: &str) -> Result<(), Fault> {
-    let script = match fs::read_to_string(rt, file) {
+/// Runs the script of a file on a new heap, and prints its run.
+pub(crate) fn write_run(rt: &HostRuntime, asked: &Asked<'_>) -> Result<(), Fault>
+    requires { (1 ≤ asked.now.pages) × (asked.now.pages ≤ MAX_PAGES) }
+{
+    let script = match fs::read_to_string(rt, asked.file) {
         Ok(script) => script,
         Err(error) => return Err(Fault::of_read(&error)),
     };
-    let Ok(core) = Core::new(rt.alloc(), pages) else {
+    let Ok(core) = Core::new(rt.alloc(), asked.pages) else {
         return Err(Fault::Memory);
     };
     let mut recorder = Recorder::new(rt.alloc(), core);
     print_run(rt, &mut recorder, script.as_str())
-}
-
-// Does what the words say.
-fn obey(rt: &HostRuntime) -> Result<(), Fault> {
-    let words = own_words(rt)?;
-    let Some((pages, file)) = words_given(words.as_slice()) else {
-        return Err(Fault::BadCommand);
-    };
-    record(rt, pages, file)
-}
-
-fn main(rt: HostRuntime) -> ExitCode {
-    let status = match obey(&rt) {
-        Err(Fault::BadCommand) => {
-            let _ = eprintln!(rt; "record --pages N FILE");
-            Fault::BadCommand.status()
-        }
-        answer => end(answer, &mut Std::new(rt.stderr())),
-    };
-    ExitCode::from(status)
 }
