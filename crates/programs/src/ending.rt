@@ -1,5 +1,7 @@
 //! How the program ends.
 ghost use Rattle.std.specs.Prelude.{◌≡◌, IfOk, IfErr, OnOk};
+ghost use Rattle.std.specs.Io.KnownBytes.{Appends};
+ghost use Rattle.programs.specs.declared.fault.Fault.TheVariants.{BadCommand};
 ghost use Rattle.programs.specs.Faults.{EndsBy, Ends, status_of};
 
 use crate::fault::Fault;
@@ -31,6 +33,8 @@ pub fn end_with_usage<E: Sink>(answer: Result<u8, Fault>, usage: &str, errors: &
     ensures own { IfOk answer (λ status. result ≡ status) }
     ensures silent { OnOk answer (errors.new ≡ errors.old) }
     ensures fault { IfErr answer (λ fault. result ≡ status_of fault) }
+    ensures told { IfErr answer (λ fault. (fault ≡ BadCommand → ⊥) → EndsBy fault result (E.written errors.old) (E.written errors.new) (E.faults errors.old) (E.faults errors.new)) }
+    ensures usage { IfErr answer (λ fault. fault ≡ BadCommand → E.faults errors.new ≡ E.faults errors.old → Appends (E.written errors.old) (E.written errors.new) usage.now) }
 {
     match answer {
         Ok(status) => status,

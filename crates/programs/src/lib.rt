@@ -4,7 +4,7 @@
 //! # What is proved
 //!
 //! `end` is the status of each fault, 2 for bad words and bad lines and 1 for any other, with its line told (`Ends`), and
-//! `end_with_usage` that status, or the one that a command answers itself.
+//! `end_with_usage` the same, or the status that a command answers itself; of bad words it tells how the command is used.
 //! `Fault::of_read` is `no memory` exactly where memory was refused, and else a read fault, and `Fault::of_write` likewise a
 //! write fault; `own_words` and `words_read` fail only with refused memory or bad words. `number_given` and `pages_given` give numbers of their ranges
 //! alone. Which words a command takes is only tested.
