@@ -105,8 +105,9 @@ impl Round {
     }
 
     /// Does a helper's share: the root words of its place, what was dealt to it, and what these lead to. Once it has read so many words
-    /// of objects that it was the first to mark, it leaves the others to their pages, which become dirty. Answers how many it read of
-    /// these. It takes no memory.
+    /// of objects that it was the first to mark, it leaves the others to their pages, which become dirty. What an entry's object
+    /// that is longer than a page leads to is left to its pages at once, unless `most` is near `u64::MAX`. Answers how many words it
+    /// read of objects that it was the first to mark. It takes no memory.
     pub fn help(
         &self,
         marker: &Marker,
