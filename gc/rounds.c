@@ -18,9 +18,8 @@
 #include "layer.h"
 
 // Words: that are marked alone before a round, so that nobody is woken for less; that each helper reads in the first one; and by so much
-// more in the next. And pages: where fewer are left dirty, and no two helpers have read all that they might, another round isn't worth it;
-// and where so many were left dirty before one, a long array leads to objects everywhere, which helpers mark no faster than one thread.
-enum { ALONE = 1 << 16, FIRST_ROUND = 1 << 16, MOST_IN_ROUND = 1 << 24, LONGER = 4, LONGER_ROUND = 16, MANY_PAGES = 64, EVERYWHERE = 1024 };
+// more in the next. And pages: where fewer are left dirty, and no two helpers have read all that they might, another round isn't worth it.
+enum { ALONE = 1 << 16, FIRST_ROUND = 1 << 16, MOST_IN_ROUND = 1 << 24, LONGER = 4, LONGER_ROUND = 16, MANY_PAGES = 64 };
 
 static mpheap_shares shares[MPHEAP_MAX_HELPERS];  // all stand at the first marker's, out of which the others come
 static _Atomic unsigned opened;
@@ -119,14 +118,16 @@ static bool were_busy(void)
 uint64_t mpgc_mark_in_rounds(void)
 {
     uint64_t dirty = mpgc_dirty_pages();
-    bool pays = dirty < EVERYWHERE, goes_on = pays;
-    for (round_words = FIRST_ROUND; goes_on; round_words = round_words < MOST_IN_ROUND ? round_words * LONGER_ROUND : round_words) {
+    bool pays, goes_on;
+    round_words = FIRST_ROUND;
+    do {
         make_round();
         if (!is_shared) return UINT64_MAX;
         pays = count_round(dirty);
         dirty = mpgc_dirty_pages();
         goes_on = pays && dirty > 0 && (dirty >= MANY_PAGES || were_busy());
-    }
+        if (round_words < MOST_IN_ROUND) round_words *= LONGER_ROUND;
+    } while (goes_on);
     alone = pays ? ALONE : alone * LONGER;
     return alone;
 }
