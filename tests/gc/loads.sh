@@ -6,7 +6,7 @@
 # first address to a register W where W was loaded last stands behind the load of a word of the heap. That has to be a plain mov into all of W,
 # of an operand that the function uses for such loads alone (a second look at the word would use it, too); where it does so again, as in another
 # copy of a loop, one of the operand's registers is written between, in the order of the text: so a second such load that the compiler had put
-# far behind its loop would be missed. A load whose address is computed from the negated first address, or that of the word behind it, is one of
+# far behind its loop would be missed. What registers have behind a jump that is always taken is what they had at the first jump to there. A load whose address is computed from the negated first address, or that of the word behind it, is one of
 # the heap too: the first two words of an object, which are looked at later. And no function of the marker may load a vector, but from its stack. What
 # lies on the stack, or far behind a pointer, is a field of the marker's own. It ends with how many places there are, of which it has to find
 # some. (0xffffab0000000000 is that address negated.)
@@ -21,11 +21,40 @@ for part in "$room"/*.o; do objdump -d -C --no-show-raw-insn "$part"; done >"$ro
 awk -v least=$least '
     # The text of an operand in memory, or nothing.
     function memory(text) { return match(text, /-?(0x[0-9a-f]+)?\(%[a-z0-9,%]*\)/) ? substr(text, RSTART, RLENGTH) : "" }
+    # All of a register that is named by a part of it.
+    function whole(name) {
+        if (name ~ /^%r[0-9]+[dwb]$/) return substr(name, 1, length(name) - 1)
+        if (name ~ /^%e/) return "%r" substr(name, 3)
+        if (name ~ /^%[abcd][lhx]$/) return "%r" substr(name, 2, 1) "x"
+        return name ~ /^%(si|di|bp|sp)l?$/ ? "%r" substr(name, 2, 2) : name
+    }
     function wrong(what) { print name ": " what ": " $0; failed = 1 }
     /^[0-9a-f]+ <.*>:$/ { ends(); name = $2; is_of_marker = name ~ /marker::/ }
     function ends(at) {
         for (at in loaded) if (used[at] != loaded[at]) { print name ": " at " is used " used[at] " times, and " loaded[at] " of them are loads"; failed = 1 }
-        split("", loaded); split("", used); split("", from); split("", first); split("", begins); split("", written); split("", line); split("", last)
+        split("", loaded); split("", used); split("", written); split("", last); split("", is_left); split("", left)
+        goes_on = 0
+        forget()
+    }
+    function forget() { split("", from); split("", first); split("", begins); split("", line); split("", of_stack) }
+    # What registers have where a jump goes to, if it is the first one there: what is written behind a jump that is always taken goes on with it.
+    function leave(to,    register) {
+        if (to in is_left) return
+        is_left[to]
+        for (register in line) left[to, register] = from[register] SUBSEP line[register] SUBSEP (register in first) SUBSEP (register in begins) SUBSEP (register in of_stack)
+    }
+    function enter(at,    both, had, has) {
+        forget()
+        for (both in left) {
+            split(both, had, SUBSEP)
+            if (had[1] != at) continue
+            split(left[both], has, SUBSEP)
+            from[had[2]] = has[1]
+            line[had[2]] = has[2]
+            if (has[3]) first[had[2]] = 1
+            if (has[4]) begins[had[2]] = 1
+            if (has[5]) of_stack[had[2]] = 1
+        }
     }
     # The line at which a register of the operand was written last.
     function renewed(at,    registers, count, k, newest) {
@@ -36,14 +65,21 @@ awk -v least=$least '
     !is_of_marker || !/^ +[0-9a-f]+:/ { next }
     {
         text = $0
+        address = $1
+        sub(/:.*/, "", address)
         sub(/^ +[0-9a-f]+:[ \t]*/, "", text)
+        if (!goes_on && address in is_left) enter(address)
+        goes_on = text !~ /^(jmp|ret|ud2)/
+        if (text ~ /^j[a-z]+[ \t]+[0-9a-f]+ </) leave(substr(text, match(text, /[0-9a-f]+ </), RLENGTH - 2))
         sub(/ *#.*/, "", text)
         operation = text
         sub(/[ \t].*/, "", operation)
         place = operation ~ /^(lea|nop|cs$|data16)/ ? "" : memory(text)
         if (place != "") used[place]++
         into = text ~ /,%[a-z0-9]+$/ ? substr(text, match(text, /%[a-z0-9]+$/)) : ""
-        if (into ~ /%[xyz]mm/ && place != "" && place !~ /%rsp/) wrong("a vector is loaded")
+        pointer = place
+        gsub(/.*\(|[,)].*/, "", pointer)
+        if (into ~ /%[xyz]mm/ && place != "" && place !~ /%rsp/ && !(pointer in of_stack)) wrong("a vector is loaded")
     }
     # The word that is looked at: the number stands in another register.
     { word = ""; split(text, part, /[(),]+/) }
@@ -75,8 +111,9 @@ awk -v least=$least '
     operation ~ /^(inc|dec|neg|not|pop)/ && text ~ /[ \t]%[a-z0-9]+$/ { written[substr(text, match(text, /%[a-z0-9]+$/))] = NR }
     # What each register has: of a load that is where it was loaded from.
     into != "" && operation !~ /^(cmp|test|bt)/ {
-        written[into] = NR
         is_whole = operation == "mov" && into ~ /^%r/ && into !~ /^%r[0-9]+[dwb]$/
+        into = whole(into)
+        written[into] = NR
         is_field = place ~ /%rsp/ || place ~ /^0x([4-9a-f][0-9a-f]|[0-9a-f][0-9a-f][0-9a-f]+)\(/
         copied = operation == "mov" && text ~ /[ \t]%r[a-z0-9]+,%r[a-z0-9]+$/ ? text : ""
         sub(/^mov[ \t]+/, "", copied)
@@ -84,6 +121,8 @@ awk -v least=$least '
         from[into] = copied != "" ? from[copied] : place == "" || is_field || operation !~ /^mov/ ? "" : is_whole ? place : "part"
         delete first[into]
         delete begins[into]
+        delete of_stack[into]
+        if (text ~ /^lea[ \t]+-?(0x[0-9a-f]+)?\(%rsp\),/) of_stack[into] = 1
         line[into] = copied != "" ? line[copied] : NR
         if (text ~ /^movabs[ \t]+\$0xffffab0000000000,/) first[into] = 1
         if (text ~ /^movabs[ \t]+\$0xffffab000000000[08],/) begins[into] = 1
