@@ -93,7 +93,7 @@ recorded_runs() {
         cp "$scripts/$name" "$room/record/$name"
         printf '%s\n' --pages "$pages" {} >"$room/record/$name.args"
     done <"$room/scripts"
-    is "scripts are recorded" "" "$("$top/tests/outputs.sh" record "$room/record" "$room/recorded" 2>&1)"
+    is "scripts are recorded" "" "$("$top/tests/outputs.sh" "$room/record" "$room/recorded" record 2>&1)"
     while read -r name pages; do
         count=$(wc -l <"$scripts/$name.stdout")
         [ "$count" -gt 0 ] || continue
