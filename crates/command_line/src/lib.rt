@@ -1,4 +1,5 @@
-//! The program around its words: they are read, the file that they name is opened, and what they ask for is done.
+//! The program around the words of `run`, `threads` and `stress`: they are read, the file that they name is opened, and what they ask for is
+//! done.
 //!
 //! # What is proved
 //!

@@ -1,5 +1,5 @@
--- The words that the programs on written runs are given.
-use Rattle.std.specs.Prelude.{◌≡◌, ℕ, ◌*◌, ◌<◌, ◌≤◌, List, [], ◌∷◌, codes, decimal}
+-- What options about written runs say.
+use Rattle.std.specs.Prelude.{◌≡◌, ℕ, ◌*◌, ◌<◌, ◌≤◌, List, codes, decimal}
 use Rattle.words.specs.declared.limits.TheConstants.{MAX_PAGES, PAGE_BYTES}
 use Rattle.heap_spec.specs.Layout.{word_end}
 use Rattle.written_runs.specs.declared.places.Places.{Places}
@@ -21,12 +21,6 @@ pub record IsByteCountText (text : List ℕ) (pages : ℕ) : Type 0 where
 pub record IsAddressText (text : List ℕ) (address : ℕ) : Type 0 where
   pub text_is : text ≡ decimal address
   pub word : address < word_end
-
--- The words are `--pages`, a number of pages, and a file.
-pub record AreGiven (words : List (List ℕ)) (pages : ℕ) (file : List ℕ) : Type 0 where
-  pub count : List ℕ
-  pub words_are : words ≡ codes "--pages" ∷ count ∷ file ∷ []
-  pub pages_are : IsPageCountText count pages
 
 -- a text says where objects may lie, in a heap that begins at an address
 abbrev pub IsPlacesText : List ℕ → ℕ → Places → Type 0

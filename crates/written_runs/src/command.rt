@@ -1,8 +1,8 @@
-//! The words that the programs on written runs are given.
-ghost use Rattle.std.specs.Prelude.{◌≡◌, ℕ, List, ◌≤◌, IfSome, MatchOption, map, string_bytes};
+//! What options about written runs say.
+ghost use Rattle.std.specs.Prelude.{ℕ, ◌≤◌, IfSome, MatchOption};
 ghost use Rattle.words.specs.declared.limits.TheConstants.{MAX_PAGES};
 ghost use Rattle.written_runs.specs.declared.places.Places.{Places as PlacesValue};
-ghost use Rattle.written_runs.specs.Arguments.{AreGiven, IsAddressText, IsByteCountText, IsPageCountText, IsPlacesText};
+ghost use Rattle.written_runs.specs.Arguments.{IsAddressText, IsByteCountText, IsPageCountText, IsPlacesText};
 
 use crate::places::Places;
 use scripts::{is_text, number, number_in};
@@ -51,21 +51,4 @@ pub fn places_given(text: &str, from: u64) -> Option<Places>
         return Some(Places::Any(from));
     }
     None
-}
-
-/// The pages and the file of `--pages N FILE`, and `None` exactly if the words are others.
-pub fn words_given(words: &[String]) -> Option<(u32, &str)>
-    ensures given { MatchOption result
-        ((pages : ℕ) (file : List ℕ) → AreGiven (map string_bytes words.now) pages file → ⊥)
-        (λ given. AreGiven (map string_bytes words.now) given.0 given.1.now) }
-    ensures range { IfSome result (λ given. (1 ≤ given.0) × (given.0 ≤ MAX_PAGES)) }
-{
-    let [option, count, file] = words else {
-        return None;
-    };
-    if !is_text(option.as_str().as_bytes(), "--pages") {
-        return None;
-    }
-    let pages = pages_given(count.as_str())?;
-    Some((pages, file.as_str()))
 }

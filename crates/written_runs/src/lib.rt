@@ -19,7 +19,7 @@ mod verdict;
 mod writing;
 
 pub use behind::Behind;
-pub use command::{address_given, bytes_given, pages_given, places_given, words_given};
+pub use command::{address_given, bytes_given, pages_given, places_given};
 pub use line::{Line, read_line};
 pub use places::Places;
 pub use rules::Rule;
