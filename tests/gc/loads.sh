@@ -6,10 +6,11 @@
 # first address to a register W where W was loaded last stands behind the load of a word of the heap. That has to be a plain mov into all of W,
 # of an operand that the function uses for such loads alone (a second look at the word would use it, too); where it does so again, as in another
 # copy of a loop, one of the operand's registers is written between, in the order of the text: so a second such load that the compiler had put
-# far behind its loop would be missed. What registers have behind a jump that is always taken is what they had at the first jump to there. A load whose address is computed from the negated first address, or that of the word behind it, is one of
-# the heap too: the first two words of an object, which are looked at later. And no function of the marker may load a vector, but from its stack. What
-# lies on the stack, or far behind a pointer, is a field of the marker's own. It ends with how many places there are, of which it has to find
-# some. (0xffffab0000000000 is that address negated.)
+# far behind its loop would be missed. What registers have behind a jump that is always taken is what they had at the first jump to there. A
+# load whose address is computed from the negated first address, or that of the word behind it, is one of the heap too: the first two words of
+# an object, which are looked at later. And no function of the marker may load a vector, but from its stack. What lies on the stack, or far
+# behind a pointer, is a field of the marker's own. It ends with how many places there are, of which it has to find some.
+# (0xffffab0000000000 is that address negated.)
 set -euo pipefail
 least=8
 room=$(mktemp -d)
