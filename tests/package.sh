@@ -108,7 +108,7 @@ in_a_root_of_its_own() {
         copied "$root" "$tool" $(libraries_of "$tool")
     done
     # shellcheck disable=SC2046
-    copied "$root" $(libraries_of "$root/usr/lib/mpheap/programs/mpheap") $(libraries_of "$root/usr/lib/libmpgc.so")
+    copied "$root" $(libraries_of "$root/usr/lib/mpheap/program") $(libraries_of "$root/usr/lib/libmpgc.so")
     mkdir -p "$root/tmp" "$root/home" "$root/dev" "$root/etc"
     mknod "$root/dev/null" c 1 3
     cp "$room/libgc.so.1" "$root/usr/lib/"
