@@ -283,6 +283,18 @@ impl Marker {
         }
     }
 
+    // Of the objects to which an object led, the second from the top is brought onto the top if it lies nearer.
+    #[inline]
+    fn bring_nearer(&mut self, depth: usize, base: u64) {
+        if self.len <= depth {
+            return;
+        }
+        let (second, top) = (self.stack[self.len - 2].0, self.stack[self.len - 1].0);
+        if (second ^ base) < (top ^ base) {
+            self.stack.swap(self.len - 1, self.len - 2);
+        }
+    }
+
     #[inline]
     fn read_top(&mut self, map: &[Page], heap_bytes: u64, memory: &[u64], known: usize, most: u64) -> u64 {
         let Some(found) = self.top(map, known) else {
@@ -292,9 +304,11 @@ impl Marker {
         if len > most.min(512) {
             return 0;
         }
+        let depth = self.len;
         self.len -= 1;
         self.mark_words(map, heap_bytes, memory, found.base, 0, len);
         self.current = Some((found.base, found.len));
+        self.bring_nearer(depth, found.base);
         len
     }
 

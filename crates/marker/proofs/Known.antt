@@ -34,7 +34,7 @@ module _ (found : ℕ → Option Found) where
   }
 
   -- and one more
-  from_push : (m : Marking) (n : ℕ) (es : List Entry) (e : Entry) → AreUnreadFrom found m n es → (f : Found) × IsUnread found m e f → AreUnreadFrom found m n (es ++ e ∷ [])
+  pub from_push : (m : Marking) (n : ℕ) (es : List Entry) (e : Entry) → AreUnreadFrom found m n es → (f : Found) × IsUnread found m e f → AreUnreadFrom found m n (es ++ e ∷ [])
   from_push m n es e k u = record {
     each = λ i d from lt is. (let l = length_push es e in
         ⊎_elim

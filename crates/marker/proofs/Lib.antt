@@ -10,6 +10,7 @@ pub mod Known
 pub mod Dropping
 pub mod Settling
 pub mod Picking
+pub mod Turning
 pub mod Reading
 pub mod Taking
 pub mod Beginning

@@ -10,12 +10,13 @@ use Rattle.marker.specs.Marking.{Marking, IsMarked, StaysDirty}
 use Rattle.marker.specs.Work.{cost}
 use Rattle.marker.specs.Growth.{Traces}
 use Rattle.marker.specs.Beside.{AreBeside, TracesIn}
-use Rattle.marker.specs.Entries.{WentOn, IsReadOut, TakesOff, Takes, nothing, settled, picked, read}
+use Rattle.marker.specs.Entries.{WentOn, IsReadOut, TakesOff, Takes, nothing, settled, picked, turned, read}
 use Rattle.marker.proofs.Growing.{below_refl, below_trans}
 use Rattle.marker.proofs.Beside.{beside_more, only_woven, still_one, traces_in, traces_in_all, traces_in_refl, traces_in_trans, traces_one}
 use Rattle.marker.proofs.Dropping.{Keeps, keeps_traces, keeps_taken}
 use Rattle.marker.proofs.Settling.{settled_keeps}
 use Rattle.marker.proofs.Picking.{picks_keeps}
+use Rattle.marker.proofs.Turning.{turns_keeps}
 use Rattle.marker.proofs.Reading.{read_traces, read_cost, read_taken, read_dirty}
 
 taken_refl : (found : ℕ → Option Found) (words : List ℕ) (m : Marking) → TakesOff found words m m
@@ -47,6 +48,7 @@ pub takes_trans : (found : ℕ → Option Found) (moments : List (List ℕ)) (ol
 takes_trans found moments old mid {n = n} t nothing = subst (λ j. Takes found moments old j mid) (let same : n ≡ n + 0 = omega arith in same) t
 takes_trans found moments old mid t (settled u x) = settled (takes_trans found moments old mid t u) x
 takes_trans found moments old mid t (picked u x) = picked (takes_trans found moments old mid t u) x
+takes_trans found moments old mid t (turned u x) = turned (takes_trans found moments old mid t u) x
 takes_trans found moments old mid {n = n} t (read {n = m} {k = j} {b = b} u x) =
     subst (λ i. Takes found moments old i b) (let same : n + m + j ≡ n + (m + j) = omega arith in same) (read (takes_trans found moments old mid t u) x)
 
@@ -72,6 +74,7 @@ module _ (pages : ℕ) (found : ℕ → Option Found) (map : IsMap pages found) 
   takes_grows nothing = record { marks_len = refl; dirty_len = refl; marks = λ b h. h; dirty = λ p h. h }
   takes_grows (settled {a = a} {b = b} t x) = keeps_grows found old a b (settled_keeps found a b x) (takes_grows t)
   takes_grows (picked {a = a} {b = b} t x) = keeps_grows found old a b (picks_keeps found a b x) (takes_grows t)
+  takes_grows (turned {a = a} {b = b} t x) = keeps_grows found old a b (turns_keeps found a b x) (takes_grows t)
   takes_grows (read {k = k} {a = a} {b = b} t x) =
       let g = takes_grows t in
       let s = read_traces pages found map x.seen k a b (g.marks_len ∙ size) x.reads in
@@ -90,6 +93,7 @@ module _ (pages : ℕ) (found : ℕ → Option Found) (map : IsMap pages found) 
   takes_traces beside nothing = traces_in_refl found moments old beside
   takes_traces beside (settled {a = a} {b = b} t x) = traces_in_trans found moments old a b (takes_traces beside t) (keeps_in a b (settled_keeps found a b x) (beside_more found old a moments (takes_grows t).dirty beside))
   takes_traces beside (picked {a = a} {b = b} t x) = traces_in_trans found moments old a b (takes_traces beside t) (keeps_in a b (picks_keeps found a b x) (beside_more found old a moments (takes_grows t).dirty beside))
+  takes_traces beside (turned {a = a} {b = b} t x) = traces_in_trans found moments old a b (takes_traces beside t) (keeps_in a b (turns_keeps found a b x) (beside_more found old a moments (takes_grows t).dirty beside))
   takes_traces beside (read {k = k} {a = a} {b = b} t x) =
       let g = takes_grows t in
       let s = beside_more found old a moments g.dirty beside in
@@ -100,6 +104,7 @@ module _ (pages : ℕ) (found : ℕ → Option Found) (map : IsMap pages found) 
   takes_cost nothing = omega arith
   takes_cost (settled {a = a} {b = b} t x) = let p = takes_cost t in let q = (settled_keeps found a b x).cost in omega arith
   takes_cost (picked {a = a} {b = b} t x) = let p = takes_cost t in let q = (picks_keeps found a b x).cost in omega arith
+  takes_cost (turned {a = a} {b = b} t x) = let p = takes_cost t in let q = (turns_keeps found a b x).cost in omega arith
   takes_cost (read {k = k} {a = a} {b = b} t x) =
       let p = takes_cost t in let q = read_cost pages found map x.seen k a b ((takes_grows t).marks_len ∙ size) x.reads in omega arith
 
@@ -118,6 +123,7 @@ module _ (pages : ℕ) (found : ℕ → Option Found) (map : IsMap pages found) 
   takes_taken nothing = taken_refl found words old
   takes_taken (settled {a = a} {b = b} t x) = kept_taken a b (takes_grows pages found map (words ∷ []) old size t) (settled_keeps found a b x) (takes_taken t)
   takes_taken (picked {a = a} {b = b} t x) = kept_taken a b (takes_grows pages found map (words ∷ []) old size t) (picks_keeps found a b x) (takes_taken t)
+  takes_taken (turned {a = a} {b = b} t x) = kept_taken a b (takes_grows pages found map (words ∷ []) old size t) (turns_keeps found a b x) (takes_taken t)
   takes_taken (read {k = k} {a = a} {b = b} t x) =
       let s = (takes_grows pages found map (words ∷ []) old size t).marks_len ∙ size in
       taken_trans found words old a b (takes_grows pages found map (words ∷ []) old size t).marks (read_traces pages found map x.seen k a b s x.reads).marks (takes_taken t)

@@ -1,5 +1,5 @@
 -- What becomes of the entries.
-use Rattle.std.specs.Prelude.{◌≡◌, ℕ, ◌+◌, ◌<◌, ◌≤◌, Bool, List, [], ◌∷◌, ◌++◌, length, slice_index_or, Contains, Option, Some, None, ◌⊎◌}
+use Rattle.std.specs.Prelude.{◌≡◌, ℕ, ◌+◌, ◌<◌, ◌≤◌, Bool, List, [], ◌∷◌, ◌++◌, length, slice_index_or, Contains, IsPermutation, Option, Some, None, ◌⊎◌}
 use Rattle.words.specs.declared.class.Kind.TheVariants.{Normal}
 use Rattle.words.specs.Layout.{page_of}
 use Rattle.pages.specs.Memory.{word_at}
@@ -49,6 +49,11 @@ pub record Settles (found : ℕ → Option Found) (old new : Marking) : Type 0 w
   pub spent : (e : Entry) → Contains dropped e → IsSpent found old e
   pub next : new.current ≡ None → new.stack ≡ []
 
+-- the same with the entries of the stack in another order
+pub record IsTurned (old new : Marking) : Type 0 where
+  pub new_is : new ≡ with_stack old new.stack
+  pub moves : IsPermutation old.stack new.stack
+
 -- An entry of the stack, wherever it stands there, is the one that is being read now. The one before it had no word left, and is dropped.
 pub record Picks (found : ℕ → Option Found) (old new : Marking) : Type 0 where
   pub lower : List Entry
@@ -56,6 +61,11 @@ pub record Picks (found : ℕ → Option Found) (old new : Marking) : Type 0 whe
   pub upper : List Entry
   pub stack : old.stack ≡ lower ++ entry ∷ upper
   pub new_is : new ≡ with_current (with_stack old (lower ++ upper)) entry
+  pub spent : (e : Entry) → old.current ≡ Some e → IsSpent found old e
+
+-- The entries of the stack stand there in another order. The one that is being read has no word left.
+pub record Turns (found : ℕ → Option Found) (old new : Marking) : Type 0 where
+  pub turned : IsTurned old new
   pub spent : (e : Entry) → old.current ≡ Some e → IsSpent found old e
 
 -- the entry once n more words are read
@@ -88,11 +98,13 @@ pub record ReadsNext (found : ℕ → Option Found) (moments : List (List ℕ)) 
   pub reads : ReadsIn found moments n next new
 
 -- So many words are taken off the entries, each from the one that is being read and at one of the moments; entries that have no
--- word to read are dropped, and when the one that is being read has none, any other may be the next.
+-- word to read are dropped, and when the one that is being read has none, any other may be the next, and those that wait may change
+-- places.
 pub data Takes (found : ℕ → Option Found) (moments : List (List ℕ)) (old : Marking) : ℕ → Marking → Type 0 where
   nothing : Takes found moments old 0 old
   settled : {n : ℕ} {a b : Marking} → Takes found moments old n a → Settles found a b → Takes found moments old n b
   picked : {n : ℕ} {a b : Marking} → Takes found moments old n a → Picks found a b → Takes found moments old n b
+  turned : {n : ℕ} {a b : Marking} → Takes found moments old n a → Turns found a b → Takes found moments old n b
   read : {n k : ℕ} {a b : Marking} → Takes found moments old n a → ReadsIn found moments k a b → Takes found moments old (n + k) b
 
 -- the entries of a stack are still where they were

@@ -12,6 +12,7 @@ mod count;
 mod entry;
 mod marker;
 mod mutators;
+mod nearer;
 mod part;
 mod reread;
 mod retrace;

@@ -137,7 +137,9 @@ impl Marker {
         if !is_whole(found, most) {
             return 0;
         }
+        let depth = self.depth();
         self.read_whole(map, heap_bytes, reader, found);
+        self.bring_nearer(depth, found.base);
         u64::from(found.len)
     }
 
