@@ -45,26 +45,37 @@ impl<'a> Pause<'a> {
         granule_of(found.base)
     }
 
-    /// Whether a word lies in the heap's range.
+    /// How many bytes the heap's range has. It is asked for once for a row of words, since each look at one may be followed by a call.
     #[inline]
-    pub(crate) fn is_inside(&self, word: u64) -> bool
+    pub(crate) fn bytes(&self) -> u64
         requires ready { IsReadyPause (pause_view self.now) }
+        ensures { result ≡ bytes_of self.now.marker.now }
+    {
+        PAGE_BYTES * u64::from(self.map.len())
+    }
+
+    /// Whether a word lies in the heap's range, which has so many bytes.
+    #[inline]
+    pub(crate) fn is_inside(&self, bytes: u64, word: u64) -> bool
+        requires ready { IsReadyPause (pause_view self.now) }
+        requires bytes { bytes ≡ bytes_of self.now.marker.now }
         ensures inside { result ≡ true → (FIRST_ADDRESS ≤ word) × (word < FIRST_ADDRESS + bytes_of self.now.marker.now) }
         ensures outside { result ≡ false → IsOutside (bytes_of self.now.marker.now) word }
     {
-        word.wrapping_sub(FIRST_ADDRESS) < PAGE_BYTES * u64::from(self.map.len())
+        word.wrapping_sub(FIRST_ADDRESS) < bytes
     }
 
     // Marks the object that a word points into. Where this helper is the first to, the object is its own to read. Answers
     // whether the word is stray: it lies in the heap's range and points into no object. Most words lie outside, and the loop over words
     // is to hold that test alone.
     #[inline]
-    fn visit<G: Gate>(&self, gate: &G, helper: &mut Helper, word: u64) -> bool
-        requires { IsHelperOf (pause_view self.now) helper.old }
+    fn visit<G: Gate>(&self, gate: &G, helper: &mut Helper, bytes: u64, word: u64) -> bool
+        requires helper { IsHelperOf (pause_view self.now) helper.old }
+        requires bytes { bytes ≡ bytes_of self.now.marker.now }
         ensures visits { Visits (pause_view self.now) word helper.old helper.new }
         ensures stray { TellsStray (found_in self.now.map.now) (bytes_of self.now.marker.now) (word ∷ []) result }
     {
-        if self.is_inside(word) {
+        if self.is_inside(bytes, word) {
             self.visit_target(gate, helper, word, true)
         } else {
             false
@@ -106,9 +117,10 @@ impl<'a> Pause<'a> {
         ensures visits { VisitsAll (pause_view self.now) words.entry helper.old helper.new }
         ensures stray { TellsStray (found_in self.now.map.now) (bytes_of self.now.marker.now) words.entry result }
     {
+        let bytes = self.bytes();
         let mut stray = false;
         for word in words {
-            stray |= self.visit(gate, helper, word);
+            stray |= self.visit(gate, helper, bytes, word);
         }
         stray
     }
@@ -167,9 +179,10 @@ impl<'a> Pause<'a> {
         ensures serves { GoesOnServing (pause_view self.now) helper.old helper.new }
         ensures roots { AreRootsRead (pause_view self.now) (view helper.new.claimer) helper.old.place (length self.now.roots.now) }
     {
+        let bytes = self.bytes();
         for i in 0..self.roots.len() {
             if i % self.helpers == helper.place {
-                self.visit(gate, helper, self.roots[i]);
+                self.visit(gate, helper, bytes, self.roots[i]);
             }
         }
     }

@@ -45,13 +45,14 @@ fn turn_of_span(span: u64, helpers: usize) -> usize
 impl<'a> Pause<'a> {
     // Whether a word points into one of the helper's spans.
     #[inline]
-    fn is_own(&self, helper: &Helper, word: u64) -> bool
+    fn is_own(&self, helper: &Helper, bytes: u64, word: u64) -> bool
         requires ready { IsReadyPause (pause_view self.now) }
+        requires bytes { bytes ≡ bytes_of self.now.marker.now }
         ensures inside { result ≡ true → (FIRST_ADDRESS ≤ word) × (word < FIRST_ADDRESS + bytes_of self.now.marker.now) }
         ensures own { result ≡ true → span_turn (pause_view self.now) word ≡ helper.now.place }
         ensures other { result ≡ false → IsOutside (bytes_of self.now.marker.now) word ⊎ (span_turn (pause_view self.now) word ≡ helper.now.place → ⊥) }
     {
-        if !self.is_inside(word) {
+        if !self.is_inside(bytes, word) {
             return false;
         }
         turn_of_span(word / SPAN_BYTES, self.helpers) == helper.place
@@ -59,12 +60,13 @@ impl<'a> Pause<'a> {
 
     // Marks the object that a word points into, if the word is the helper's. Answers whether it is the helper's and stray.
     #[inline]
-    fn visit_own<G: Gate>(&self, gate: &G, helper: &mut Helper, word: u64) -> bool
-        requires { IsHelperOf (pause_view self.now) helper.old }
+    fn visit_own<G: Gate>(&self, gate: &G, helper: &mut Helper, bytes: u64, word: u64) -> bool
+        requires helper { IsHelperOf (pause_view self.now) helper.old }
+        requires bytes { bytes ≡ bytes_of self.now.marker.now }
         ensures visits { VisitsAll (pause_view self.now) (own_words (pause_view self.now) helper.old.place (word ∷ [])) helper.old helper.new }
         ensures stray { TellsStray (found_in self.now.map.now) (bytes_of self.now.marker.now) (own_words (pause_view self.now) helper.old.place (word ∷ [])) result }
     {
-        if self.is_own(helper, word) {
+        if self.is_own(helper, bytes, word) {
             self.visit_target(gate, helper, word, helper.left > ENDLESS)
         } else {
             false
@@ -78,9 +80,10 @@ impl<'a> Pause<'a> {
         ensures visits { VisitsAll (pause_view self.now) (own_words (pause_view self.now) helper.old.place words.entry) helper.old helper.new }
         ensures stray { TellsStray (found_in self.now.map.now) (bytes_of self.now.marker.now) (own_words (pause_view self.now) helper.old.place words.entry) result }
     {
+        let bytes = self.bytes();
         let mut stray = false;
         for word in words {
-            stray |= self.visit_own(gate, helper, word);
+            stray |= self.visit_own(gate, helper, bytes, word);
         }
         stray
     }

@@ -16,7 +16,7 @@ returns-then-is_own-clause-stray g c =
 pub returns-else-is_own-clause-visits : goal.returns-else-is_own-clause-visits
 returns-else-is_own-clause-visits g c =
     let f : c.is_own.result ≡ false = search rules in
-    other_visits (pause_view c.args.self.now) c.args.helper.now.place c.args.word (c.is_own.ensures.other f) c.args.helper.now c.requires.ready c.requires.of
+    other_visits (pause_view c.args.self.now) c.args.helper.now.place c.args.word (c.is_own.ensures.other f) c.args.helper.now c.requires.helper.ready c.requires.helper.of
 
 pub returns-else-is_own-clause-stray : goal.returns-else-is_own-clause-stray
 returns-else-is_own-clause-stray g c =
