@@ -6,6 +6,7 @@ use Rattle.words.specs.declared.limits.TheConstants.{FIRST_ADDRESS, PAGE_WORDS}
 use Rattle.words.specs.declared.class.Kind.{Kind}
 use Rattle.words.proofs.Addresses.{on_its_page}
 use Rattle.blocks.specs.Cells.{Cells, IsCells}
+use Rattle.blocks.specs.Lists.{IsFreeCellOf}
 use Rattle.words.specs.Layout.{page_start, page_of, IsOnPage}
 use Rattle.block_map.specs.States.{PageState, free, cut, head, body, state_at, span_of, LaidAt, IsLaid, HasCell, with_cell, IsSpanSet, large_states, all_free}
 use Rattle.block_map.specs.Objects.{cell_object, large_object, object_on, IsObjectOn, IsInside}
@@ -126,9 +127,16 @@ put_in s (cut b) p i n laid new lt is cell =
 put_in s (head m k) p i n laid new lt is cell = absurd cell
 put_in s (body q) p i n laid new lt is cell = absurd cell
 
-pub cell_put : (s : List PageState) (p i n : ℕ) → IsLaid s → IsLaid (set s p (with_cell (state_at s p) i false n)) → p < length s → HasCell (state_at s p) i true
-    → IsAdded (found_in (set s p (with_cell (state_at s p) i false n))) (found_in s) (object_on p (state_at s p) i)
-cell_put s p i n laid new lt cell = put_in s (state_at s p) p i n laid new lt refl cell
+-- a cell of a block is taken, or put back
+module _ (s : List PageState) (p i n : ℕ) (b d : Cells) (laid : IsLaid s) (lt : p < length s) (is : state_at s p ≡ cut b) where
+  pub block_taken : IsFreeCellOf b.taken i → d ≡ record b { taken = set b.taken i true; first = n } → IsAdded (found_in s) (found_in (set s p (cut d))) (cell_object p d i)
+  block_taken at became = subst (λ (x : Cells). IsAdded (found_in s) (found_in (set s p (cut x))) (cell_object p x i)) (sym became) (taken_in s (cut b) p i n laid lt is (at.inside, at.free))
+
+  pub block_put : HasCell (state_at s p) i true → IsLaid (set s p (cut d)) → d ≡ record b { taken = set b.taken i false; first = n } → IsAdded (found_in (set s p (cut d))) (found_in s) (object_on p (state_at s p) i)
+  block_put cell new became =
+      subst (λ (x : Cells). IsLaid (set s p (cut x)) → IsAdded (found_in (set s p (cut x))) (found_in s) (object_on p (state_at s p) i)) (sym became)
+      (subst (λ st. IsLaid (set s p (with_cell (cut b) i false n)) → IsAdded (found_in (set s p (with_cell (cut b) i false n))) (found_in s) (object_on p st i)) (sym is)
+      (λ laid'. put_in s (cut b) p i n laid laid' lt is (subst (λ st. HasCell st i true) is cell))) new
 
 -- ---- a large object comes
 pub large_added : (old new : List PageState) (first n : ℕ) (kind : Kind) → IsLaid old → 0 < n → ((k : ℕ) → first ≤ k → k < first + n → state_at old k ≡ free)
@@ -200,4 +208,4 @@ pub uncut_changes : (old new : List PageState) (p : ℕ) → IsLaid old → p < 
     → IsUncut p (state_at old p) (found_in old) (found_in new)
 uncut_changes old new p laid lt pos span = (uncut_on old new p (state_at old p) laid lt refl pos span).1
 
-pub ruleset changing = (cut_same, cell_taken, cell_put, large_added, uncut_cleared, uncut_changes)
+pub ruleset changing = (cut_same, cell_taken, large_added, uncut_cleared, uncut_changes)

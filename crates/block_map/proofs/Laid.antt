@@ -1,10 +1,12 @@
 -- The map stays laid out.
-use Rattle.std.proofs.Common.{◌≡◌, ℕ, ◌+◌, ◌/◌, ◌<◌, ◌≤◌, Bool, false, List, length, set, replicate, refl, sym, ◌∙◌, subst, arith, ⊎_elim, length-set, get_or-set_same}
+use Rattle.std.proofs.Common.{◌≡◌, ℕ, ◌+◌, ◌/◌, ◌<◌, ◌≤◌, Bool, false, List, length, set, replicate, refl, sym, ap, ◌∙◌, subst, arith, ⊎_elim, length-set, get_or-set_same}
 use Rattle.std.proofs.lemmas.Bool.{cases_eq}
 use Rattle.words.specs.declared.class.Kind.{Kind}
 use Rattle.words.specs.declared.limits.TheConstants.{MOST_PAGES, PAGE_WORDS}
-use Rattle.blocks.specs.Cells.{IsCells}
+use Rattle.words.specs.Classes.{IsSizeClass}
+use Rattle.blocks.specs.Cells.{Cells, IsCells}
 use Rattle.block_map.specs.States.{PageState, free, cut, head, body, state_at, span_of, LaidAt, IsLaid, IsCut, HasCell, with_cell, IsSpanSet, large_states, all_free, AreFreePages}
+use Rattle.block_map.proofs.Seen.{laid_at}
 use Rattle.block_map.proofs.Spans.{Out, place_of, IsClosed, IsPlain, free_plain, cut_plain, closed_one, closed_free, closed_head, span_one, large_here, large_else}
 
 module _ (old new : List PageState) (first n : ℕ) (size : length new ≡ length old)
@@ -33,6 +35,13 @@ set_one s p st laid lt plain here =
     laid_span s (set s p st) p 1 span.size span.others (closed_one s p plain) laid
     (λ k a b l. let e : k ≡ p = omega arith in
     subst (λ i. LaidAt (set s p st) i (state_at (set s p st) i)) (sym e) (subst (LaidAt (set s p st) p) (sym (get_or-set_same s p st free lt)) here))
+
+-- a block has other cells allocated
+pub laid_cut : (s : List PageState) (p : ℕ) (b d : Cells) → IsLaid s → p < length s → state_at s p ≡ cut b → d.class ≡ b.class → length d.taken ≡ length b.taken → IsLaid (set s p (cut d))
+laid_cut s p b d laid lt is class size =
+    let cells : IsCells b = laid_at s p (cut b) laid is lt in
+    set_one s p (cut d) laid lt (subst IsPlain (sym is) (cut_plain (cut b) tt))
+    (record { class = subst IsSizeClass (sym class) cells.class; size = size ∙ cells.size ∙ ap (λ c. PAGE_WORDS / c) (sym class) })
 
 pub laid_block : (s : List PageState) (p c : ℕ) (k : Kind) → IsLaid s → p < length s → state_at s p ≡ free → IsCells (record { class = c; kind = k; taken = replicate (PAGE_WORDS / c) false; first = 0 }) → IsLaid (set s p (all_free c k))
 laid_block s p c k laid lt is cells = set_one s p (all_free c k) laid lt (subst IsPlain (sym is) free_plain) cells

@@ -1,6 +1,5 @@
 pub mod Bases
 pub mod Changing
-pub mod Filling
 pub mod Finding
 pub mod Padding
 pub mod Laid

@@ -1,21 +1,19 @@
 -- Pages of which only the first ones are made.
-use Rattle.std.proofs.Common.{◌≡◌, ℕ, zero, suc, ◌-◌, ◌<◌, ◌≤◌, Bool, Option, None, Some, List, [], ◌∷◌, ◌++◌, length, map, set, get_or, replicate, refl, sym, ap, ◌∙◌, subst, ⊎_elim, arith, length-set}
+use Rattle.std.proofs.Common.{◌≡◌, ℕ, zero, suc, ◌-◌, ◌<◌, ◌≤◌, Some, List, [], ◌∷◌, ◌++◌, length, map, set, get_or, replicate, refl, sym, ap, ◌∙◌, subst, ⊎_elim, arith, length-set}
 use Rattle.std.proofs.lemmas.Bool.{cases_lt}
 use Rattle.std.proofs.lemmas.Option.{none-some}
-use Rattle.std.proofs.lemmas.List.{get_or_past, get_or-replicate, get_or_append_left, get_or-append_right, length-append, length-map, length-replicate, set-append_left}
+use Rattle.std.proofs.lemmas.List.{map-set, get_or_past, get_or-replicate, get_or_append_left, get_or-append_right, length-append, length-map, length-replicate, set-append_left}
 use Rattle.block_map.specs.declared.page.Page.{Page}
-use Rattle.block_map.specs.declared.page.Page.TheVariants.{Free}
-use Rattle.block_map.specs.States.{PageState, free, cut, head, body, state_at, AreFreePages, HasCell, IsSpanSet, IsCut}
-use Rattle.block_map.specs.Listed.{with_taken, IsLinked}
+use Rattle.block_map.specs.declared.page.Page.TheVariants.{Cut, Free}
+use Rattle.block_map.specs.States.{PageState, free, cut, state_at, AreFreePages, IsCut}
 use Rattle.block_map.specs.Shown.{shown, padded, IsSameStates}
-use Rattle.std.specs.Prelude.{IfSome}
-use Rattle.block_map.specs.declared.found.Taken.{Taken}
 use Rattle.words.specs.declared.limits.TheConstants.{FIRST_ADDRESS}
 use Rattle.words.specs.Layout.{page_of}
 use Rattle.block_map.specs.FoundIn.{found_in}
 use Rattle.block_map.specs.declared.found.Found.{Found}
 use Rattle.block_map.proofs.Finding.{found_as, found_low}
 use Rattle.block_map.proofs.Seen.{state_read}
+use Rattle.blocks.specs.Cells.{Cells}
 
 free_past : (n k : ℕ) → get_or (replicate n free) k free ≡ free
 free_past n k = ⊎_elim (λ lt. get_or-replicate n k free free lt) (λ past. get_or_past (replicate n free) k free (let size : length (replicate n free) ≡ n = length-replicate n free in omega (arith, size, past))) (cases_lt k n)
@@ -67,17 +65,6 @@ made_at items n k x lt is = padded_at (map shown items) n k ∙ state_read items
 pub past_at : (items : List Page) (n k : ℕ) (x : Page) → length items ≤ k → shown x ≡ free → state_at (padded (map shown items) n) k ≡ shown x
 past_at items n k x past is = past_made items n k past ∙ sym is
 
-pub padded_span : (old made new : List PageState) (n first count : ℕ) (state : ℕ → PageState) → length old ≤ n → length made ≤ n → IsSameStates old made → IsSpanSet made new first count state
-    → IsSpanSet (padded old n) (padded new n) first count state
-padded_span old made new n first count state small few same span =
-    let size = span.size in let fits = span.fits in
-    let whole : length (padded old n) ≡ n = padded_len old n small in record {
-      size = padded_len new n (omega (arith, size, few)) ∙ sym whole;
-      fits = omega (arith, whole, few, fits);
-      inside = λ k a b. padded_at new n k ∙ span.inside k a b;
-      others = λ k out. padded_at new n k ∙ span.others k out ∙ same.at k ∙ sym (padded_at old n k);
-    }
-
 -- two lists of the same states over the same pages are one
 pub same_list : (a b : List PageState) → length a ≡ length b → ((k : ℕ) → state_at a k ≡ state_at b k) → a ≡ b
 same_list [] [] size same = refl
@@ -87,9 +74,6 @@ same_list (x ∷ xs) (y ∷ ys) size same = ap (λ h. h ∷ xs) (same 0) ∙ ap 
 
 pub padded_same : (old made : List PageState) (n : ℕ) → length old ≤ n → length made ≤ n → IsSameStates old made → padded made n ≡ padded old n
 padded_same old made n small few same = same_list (padded made n) (padded old n) (padded_len made n few ∙ sym (padded_len old n small)) (λ k. padded_at made n k ∙ same.at k ∙ sym (padded_at old n k))
-
-pub padded_put : (old made new : List PageState) (n k : ℕ) (st : PageState) → length old ≤ n → length made ≤ n → IsSameStates old made → k < length made → new ≡ set made k st → padded new n ≡ set (padded old n) k st
-padded_put old made new n k st small few same lt is = ap (λ m. padded m n) is ∙ padded_set made n k st lt ∙ ap (λ m. set m k st) (padded_same old made n small few same)
 
 -- a page that is cut is made
 pub cut_made : (items : List Page) (n k : ℕ) → IsCut (state_at (padded (map shown items) n) k) → k < length items
@@ -104,43 +88,17 @@ page_fits items n states k le is lt = let e = len_is items n states le is in ome
 pub same_pages : (old made : List Page) (n : ℕ) → length old ≤ n → length made ≤ n → IsSameStates (map shown old) (map shown made) → padded (map shown made) n ≡ padded (map shown old) n
 same_pages old made n small few same = let a = length-map old shown in let b = length-map made shown in padded_same (map shown old) (map shown made) n (omega (arith, a, small)) (omega (arith, b, few)) same
 
+pub put_states : (items : List Page) (k : ℕ) (x : Page) → map shown (set items k x) ≡ set (map shown items) k (shown x)
+put_states items k x = map-set shown items k x
+
 pub set_made : (old new : List Page) (n k : ℕ) (st : PageState) → k < length old → map shown new ≡ set (map shown old) k st → padded (map shown new) n ≡ set (padded (map shown old) n) k st
 set_made old new n k st lt is = ap (λ m. padded m n) is ∙ padded_set (map shown old) n k st (let size = length-map old shown in omega (arith, size, lt))
 
-pub change_made : (old new : List Page) (n k : ℕ) (change : PageState → PageState) → k < length old → map shown new ≡ set (map shown old) k (change (state_at (map shown old) k))
-    → padded (map shown new) n ≡ set (padded (map shown old) n) k (change (state_at (padded (map shown old) n) k))
-change_made old new n k change lt is = set_made old new n k (change (state_at (map shown old) k)) lt is ∙ ap (λ st. set (padded (map shown old) n) k (change st)) (sym (padded_at (map shown old) n k))
+-- a page that is made gets a block
+pub set_block : (items : List Page) (n k : ℕ) (b : Cells) → k < length items → padded (map shown (set items k (Cut b))) n ≡ set (padded (map shown items) n) k (cut b)
+set_block items n k b lt = set_made items (set items k (Cut b)) n k (cut b) lt (put_states items k (Cut b))
 
-pub taken_made : (words : List ℕ) (old new : List Page) (n k : ℕ) (taken : Option Taken) → k < length old
-    → IfSome taken (λ _. map shown new ≡ set (map shown old) k (with_taken words k (state_at (map shown old) k)))
-    → IfSome taken (λ _. padded (map shown new) n ≡ set (padded (map shown old) n) k (with_taken words k (state_at (padded (map shown old) n) k)))
-taken_made words old new n k None lt is = is
-taken_made words old new n k (Some t) lt is = change_made old new n k (λ st. with_taken words k st) lt is
-
-pub become_made : (old new : List Page) (n k : ℕ) → k < length old → map shown new ≡ set (map shown old) k (state_at (map shown new) k)
-    → padded (map shown new) n ≡ set (padded (map shown old) n) k (state_at (padded (map shown new) n) k)
-become_made old new n k lt is = set_made old new n k (state_at (map shown new) k) lt is ∙ ap (set (padded (map shown old) n) k) (sym (padded_at (map shown new) n k))
-
-pub has_cut : (st : PageState) (i : ℕ) (taken : Bool) → HasCell st i taken → IsCut st
-has_cut free i taken has = has
-has_cut (cut b) i taken has = tt
-has_cut (head n kind) i taken has = has
-has_cut (body first) i taken has = has
-
-pub linked_cut : (st : PageState) → IsLinked st → IsCut st
-linked_cut free is = is
-linked_cut (cut b) is = tt
-linked_cut (head n kind) is = is
-linked_cut (body first) is = is
-
--- a page with a list is made
-pub linked_made : (items : List Page) (n k : ℕ) → IsLinked (state_at (padded (map shown items) n) k) → k < length items
-linked_made items n k is = cut_made items n k (linked_cut (state_at (padded (map shown items) n) k) is)
-
-pub cell_made : (items : List Page) (n k i : ℕ) (taken : Bool) → HasCell (state_at (padded (map shown items) n) k) i taken → k < length items
-cell_made items n k i taken has = cut_made items n k (has_cut (state_at (padded (map shown items) n) k) i taken has)
-
-pub ruleset padding = (padded_len, padded_at, padded_free, past_made, made_at, past_at, padded_span, padded_put, cut_made, linked_made, len_is)
+pub ruleset padding = (padded_len, padded_at, padded_free, past_made, made_at, past_at, cut_made, len_is)
 
 -- no word points into an object past the pages that may have something
 pub found_below : (states : List PageState) (n w : ℕ) (f : Found) → ((k : ℕ) → n ≤ k → state_at states k ≡ free) → found_in states w ≡ Some f → page_of w < n

@@ -121,3 +121,6 @@ span_one s p st lt = record {
   inside = λ k a b. let e : k ≡ p = omega arith in ap (state_at (set s p st)) e ∙ get_or-set_same s p st free lt;
   others = λ k out. get_or-set_other s p k st free (out_one p k out);
 }
+
+-- a loop over the pages of a span
+pub ruleset filling = (span_start, span_more, large_here, large_else)

@@ -1,22 +1,20 @@
 -- The objects of a map while a page is swept.
-use Rattle.std.proofs.Common.{◌≡◌, ℕ, ◌+◌, ◌*◌, ◌/◌, ◌%◌, ◌<◌, ◌⊎◌, Bool, true, false, cond, List, length, get_or, set, None, Some, refl, sym, ap, ◌∙◌, subst, arith, inl, inr, ⊎_elim}
+use Rattle.std.proofs.Common.{◌≡◌, ℕ, ◌+◌, ◌*◌, ◌/◌, ◌%◌, ◌<◌, ◌⊎◌, Bool, true, false, cond, List, length, get_or, set, None, Some, refl, sym, ap, ◌∙◌, subst, arith, inl, inr, ⊎_elim, get_or-set_same}
 use Rattle.std.proofs.lemmas.Bool.{cases_lt}
 use Rattle.std.proofs.lemmas.Nat.{div-add-mod'}
 use Rattle.std.proofs.lemmas.Option.{same_Some}
-use Rattle.words.specs.declared.limits.TheConstants.{PAGE_BYTES, PAGE_WORDS}
+use Rattle.words.specs.declared.limits.TheConstants.{PAGE_BYTES}
 use Rattle.words.specs.Bits.{Has}
 use Rattle.words.specs.Layout.{granule, page_start, IsOnPage}
 use Rattle.words.proofs.Classes.{class_even}
 use Rattle.blocks.specs.Cells.{Cells, IsCells}
-use Rattle.words.specs.Classes.{IsSizeClass}
 use Rattle.blocks.specs.Sweeps.{mark_of, SweepsCells}
-use Rattle.block_map.specs.States.{PageState, cut, state_at, LaidAt, IsLaid}
-use Rattle.block_map.proofs.Laid.{set_one}
+use Rattle.block_map.specs.States.{PageState, free, cut, state_at, IsLaid}
+use Rattle.block_map.proofs.Laid.{laid_cut}
+use Rattle.block_map.proofs.Seen.{laid_at}
 use Rattle.block_map.specs.Objects.{cell_object, IsInside, IsObjectOn}
 use Rattle.block_map.specs.FoundIn.{cell_at, found_in, IsLawful}
-use Rattle.block_map.specs.Sweeps.{SweepsObjects, SweepsOn}
-use Rattle.block_map.specs.Listed.{AreListed, IsListedOn}
-use Rattle.block_map.proofs.Listed.{listed_else}
+use Rattle.block_map.specs.Sweeps.{SweepsObjects}
 use Rattle.block_map.specs.declared.found.Found.{Found}
 use Rattle.block_map.proofs.Spans.{Out, IsPlain, cut_plain, closed_one, span_one}
 use Rattle.block_map.proofs.Words.{read_cell}
@@ -106,21 +104,9 @@ module _ (s t : List PageState) (p : ℕ) (marks : List Bool) (b d : Cells) (lai
       by w f at e false m = absurd (none_some f (sym (on_dead w at m) ∙ e))
 
 -- what the map is then
-module _ (s t : List PageState) (p : ℕ) (marks : List Bool) (laid : IsLaid s) (lt : p < length s) (became : t ≡ set s p (state_at t p)) (x : SweepsOn marks p (state_at s p) (state_at t p)) where
-  cells_before : IsCells x.old
-  cells_before = subst (LaidAt s p) x.was (laid.each p lt)
+module _ (s : List PageState) (p : ℕ) (marks : List Bool) (b d : Cells) (laid : IsLaid s) (lt : p < length s) (is : state_at s p ≡ cut b) (x : SweepsCells marks p b d) where
+  pub laid_swept : IsLaid (set s p (cut d))
+  laid_swept = laid_cut s p b d laid lt is x.class x.row
 
-  cells_after : IsCells x.new
-  cells_after = record { class = subst IsSizeClass (sym x.cells.class) cells_before.class; size = x.cells.row ∙ cells_before.size ∙ ap (λ c. PAGE_WORDS / c) (sym x.cells.class) }
-
-  pub laid_swept : IsLaid t
-  laid_swept = subst IsLaid (sym became)
-      (set_one s p (state_at t p) laid lt (subst IsPlain (sym x.was) (cut_plain (cut x.old) tt)) (subst (LaidAt (set s p (state_at t p)) p) (sym x.is) cells_after))
-
-  pub objects_swept : IsLawful s → SweepsObjects (found_in s) (found_in t) marks p
-  objects_swept lawful = sweeps_objects s t p marks x.old x.new laid lawful cells_before x.was x.is
-      (λ k out. ap (λ y. state_at y k) became ∙ (span_one s p (state_at t p) lt).others k out) x.cells
-
-  -- and its lists
-  pub listed_swept : (words : List ℕ) → IsListedOn words p (state_at t p) → AreListed words s → AreListed words t
-  listed_swept words here listed = listed_else words s t p laid lt listed became here
+  pub objects_swept : IsLawful s → SweepsObjects (found_in s) (found_in (set s p (cut d))) marks p
+  objects_swept lawful = sweeps_objects s (set s p (cut d)) p marks b d laid lawful (laid_at s p (cut b) laid is lt) is (get_or-set_same s p (cut d) free lt) (span_one s p (cut d) lt).others x

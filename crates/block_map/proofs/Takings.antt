@@ -5,7 +5,7 @@ use Rattle.words.specs.declared.class.Kind.{Kind}
 use Rattle.blocks.specs.Lists.{link_of, Pops}
 use Rattle.block_map.specs.Listed.{first_on, link_on, with_taken, HasFirst}
 use Rattle.block_map.specs.States.{PageState, free, cut, state_at, IsLaid}
-use Rattle.block_map.specs.Takings.{after_take, TakesCells, PopsOn}
+use Rattle.block_map.specs.Takings.{after_take, TakesCells}
 use Rattle.block_map.proofs.Laid.{laid_cell}
 use Rattle.block_map.proofs.Changing.{cell_taken}
 
@@ -13,7 +13,8 @@ use Rattle.block_map.proofs.Changing.{cell_taken}
 abbrev cut_as : ℕ → Kind → List Bool → ℕ → PageState
 cut_as c k taken first = cut (record { class = c; kind = k; taken = taken; first = first })
 
-takes_row : {link : ℕ → ℕ} {row after : List Bool} {first last : ℕ} {cells : List ℕ} → Pops link row first cells after last → (words : List ℕ) (s : List PageState) (p c : ℕ) (k : Kind) → link ≡ link_of words p c → IsLaid s → p < length s
+-- cells of a page were taken, and all other pages are as they were
+pub takes_row : {link : ℕ → ℕ} {row after : List Bool} {first last : ℕ} {cells : List ℕ} → Pops link row first cells after last → (words : List ℕ) (s : List PageState) (p c : ℕ) (k : Kind) → link ≡ link_of words p c → IsLaid s → p < length s
     → state_at s p ≡ cut_as c k row first → TakesCells words p s cells (set s p (cut_as c k after last)) × IsLaid (set s p (cut_as c k after last))
 takes_row (Pops.done {row = row} {first = first}) words s p c k links laid lt is =
     let same : set s p (cut_as c k row first) ≡ s = ap (set s p) (sym is) ∙ set-get_or s p free in
@@ -29,14 +30,6 @@ takes_row {link = link} (Pops.next {row = row} {new = after} {first = first} {la
     (get_or-set_same s p (with_taken words p (state_at s p)) free lt ∙ became_so) in
     let same : set (after_take words s p) p (cut_as c k after last) ≡ set s p (cut_as c k after last) = set-set s p (with_taken words p (state_at s p)) (cut_as c k after last) in
     (TakesCells.next laid (sym begins) has (cell_taken s p (first_on (state_at s p)) n laid lt has) (subst (TakesCells words p (after_take words s p) more) same later.0), subst IsLaid same later.1)
-
--- cells of a page were taken, and all other pages are as they were
-pub takes_cells : (words : List ℕ) (s new : List PageState) (p : ℕ) (cells : List ℕ) → IsLaid s → p < length s → new ≡ set s p (state_at new p) → PopsOn words p (state_at s p) cells (state_at new p)
-    → TakesCells words p s cells new × IsLaid new
-takes_cells words s new p cells laid lt else on =
-    let taken = takes_row on.pops words s p on.block.class on.block.kind refl laid lt on.was in
-    let same : set s p (cut_as on.block.class on.block.kind on.taken on.first) ≡ new = sym (else ∙ ap (set s p) on.is) in
-    (subst (TakesCells words p s cells) same taken.0, subst IsLaid same taken.1)
 
 -- there are as many pages as before
 pub taken_size : {words : List ℕ} {page : ℕ} {states new : List PageState} {cells : List ℕ} → TakesCells words page states cells new → length new ≡ length states

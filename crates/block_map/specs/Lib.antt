@@ -1,3 +1,4 @@
+pub mod Lending
 pub mod Changes
 pub mod FoundIn
 pub mod FreeCells

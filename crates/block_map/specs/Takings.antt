@@ -1,11 +1,9 @@
 -- Cells that are taken one after the other.
-use Rattle.std.specs.Prelude.{◌≡◌, ℕ, Bool, List, [], ◌∷◌, slice_set}
-use Rattle.blocks.specs.Cells.{Cells}
-use Rattle.blocks.specs.Lists.{link_of, Pops}
+use Rattle.std.specs.Prelude.{◌≡◌, ℕ, List, [], ◌∷◌, slice_set}
 use Rattle.block_map.specs.Changes.{IsAdded}
 use Rattle.block_map.specs.FoundIn.{found_in}
 use Rattle.block_map.specs.Listed.{first_object, first_on, with_taken, HasFirst}
-use Rattle.block_map.specs.States.{PageState, cut, state_at, IsLaid}
+use Rattle.block_map.specs.States.{PageState, state_at, IsLaid}
 
 -- the map with the first free cell of a page allocated
 abbrev pub after_take : List ℕ → List PageState → ℕ → List PageState
@@ -17,12 +15,3 @@ pub data TakesCells (words : List ℕ) (page : ℕ) : List PageState → List �
   next : {states new : List PageState} {cell : ℕ} {more : List ℕ} → IsLaid states → cell ≡ first_on (state_at states page) → HasFirst (state_at states page)
       → IsAdded (found_in states) (found_in (after_take words states page)) (first_object page (state_at states page)) → TakesCells words page (after_take words states page) more new
       → TakesCells words page states (cell ∷ more) new
-
--- the first cells of the list of a page that is cut were taken one after the other
-pub record PopsOn (words : List ℕ) (page : ℕ) (old : PageState) (cells : List ℕ) (new : PageState) : Type 0 where
-  pub block : Cells
-  pub taken : List Bool
-  pub first : ℕ
-  pub was : old ≡ cut block
-  pub is : new ≡ cut (record block { taken = taken; first = first })
-  pub pops : Pops (link_of words page block.class) block.taken block.first cells taken first

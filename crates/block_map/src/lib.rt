@@ -17,7 +17,6 @@ mod large;
 mod look;
 mod map;
 mod page;
-mod page_changes;
 mod page_list;
 mod walk;
 

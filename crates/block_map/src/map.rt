@@ -17,6 +17,7 @@ ghost use Rattle.block_map.specs.Takings.{TakesCells};
 ghost use Rattle.block_map.specs.Changes.{IsSameMap, IsAdded, IsRemoved, IsCleared, IsUncut};
 
 use crate::found::{Put, Taken, TakenCells};
+use crate::look::cell_at;
 use crate::page::Page;
 use crate::page_list::PageList;
 use blocks::Block;
@@ -164,7 +165,14 @@ impl BlockMap {
         ensures listed { AreListed memory.now self.new }
         ensures linked { IsLinked (state_at self.new page) }
     {
-        self.pages.take_cell(memory, page)
+        let block = self.pages.block_mut(page);
+        let Some(cell) = block.take(memory, page) else {
+            return None;
+        };
+        Some(Taken {
+            object: cell_at(page, block, cell),
+            was_last: block.is_at_end(),
+        })
     }
 
     /// Takes the first free cells of a page that is cut, as many as there is room for, each for a new object, and writes them down in their
@@ -181,7 +189,10 @@ impl BlockMap {
         ensures listed { AreListed memory.now self.new }
         ensures linked { IsLinked (state_at self.new page) }
     {
-        self.pages.take_cells(memory, page, cells)
+        let block = self.pages.block_mut(page);
+        let count = block.take_many(memory, page, cells);
+        let is_full = block.is_at_end();
+        TakenCells { count, is_full }
     }
 
     /// Makes an allocated cell free, and the first free one of its page where that has a list. Its first word gets the number of the one that was
@@ -197,7 +208,15 @@ impl BlockMap {
         ensures listed { AreListed memory.new self.new }
         ensures tells { TellsOf (state_at self.old page) (with_put (state_at self.old page) cell) result }
     {
-        self.pages.put_cell(memory, page, cell)
+        let block = self.pages.block_mut(page);
+        let was_full = block.is_full();
+        block.put(memory, page, cell);
+        Put {
+            class: block.class(),
+            kind: block.kind(),
+            was_full,
+            is_empty: block.is_empty(),
+        }
     }
 
     /// Sweeps a page that is cut: its unmarked objects go. No word changes: a list of its free cells is made once one is
@@ -212,7 +231,7 @@ impl BlockMap {
         ensures listed { (words : List ℕ) → AreListed words self.old → AreListed words self.new }
     {
         self.laws();
-        self.pages.sweep_cells(page, marks)
+        self.pages.block_mut(page).keep_marked(page, marks);
     }
 
     /// Makes the free cells of a page that is cut a list in their order, if they are none.
@@ -228,8 +247,10 @@ impl BlockMap {
         ensures memory { ChangesFreeOn memory.old memory.new page (state_at self.old page) }
         ensures listed { AreListed memory.new self.new }
     {
-        self.laws();
-        self.pages.link_cells(memory, page)
+        let block = self.pages.block_mut(page);
+        if !block.is_listed() {
+            block.link(memory, page);
+        }
     }
 
     // What stands on a page.
