@@ -17,7 +17,8 @@ use Rattle.block_map.specs.Objects.{cell_object, IsObjectOn}
 use Rattle.block_map.specs.States.{PageState, free, cut, head, body, state_at, IsBlockFor, IsCut, IsLaid, IsSpanSet}
 use Rattle.block_map.specs.declared.found.Found.{Found}
 use Rattle.lazy_sweep.specs.AvailableRows.{IsAvailable, AreReady, AreWaiting, IsBitSet}
-use Rattle.lazy_sweep.specs.Sound.{AreExactRows, Unswept}
+use Rattle.lazy_sweep.specs.Sound.{AreExactRows}
+use Rattle.lazy_sweep.specs.declared.table.PageTable.{PageTable}
 use Rattle.lazy_sweep.specs.Store.{Store}
 use Rattle.lazy_sweep.specs.Sweeps.{SweepsPage}
 use Rattle.lazy_sweep.proofs.ExactRows.{OffersOnly, cut_offers, free_offers, BlockOnly, cut_block, free_block, ready_changed, waiting_changed}
@@ -99,13 +100,13 @@ cut_freed states states' page row inside span cuts p h = ⊎_elim
     (cases_eq p page)
 
 -- and all rows are exact
-pub rows_freed : (states states' : List PageState) (ready ready' : List (List Bool)) (old new : Unswept) (page : ℕ) (b : Cells) → state_at states page ≡ cut b → (class : ℕ) (kind : Kind) → class ≡ b.class → kind ≡ b.kind → page < length old.pending
-    → IsSpanSet states states' page 1 (λ _. free) → IsBitSet ready ready' class kind page false → IsBitSet old.waiting new.waiting class kind page false → new.pending ≡ set old.pending page false → AreExactRows states ready old → AreExactRows states' ready' new
-rows_freed states states' ready ready' old new page b is class kind c k inside span left awaited row rows = record {
-  exact = subst (AreReady ready' states') (sym row) (exact_freed ready ready' states states' old.pending page b is class kind c k span left rows.exact);
-  awaited = subst (AreWaiting new.waiting states') (sym row) (awaited_freed old.waiting new.waiting states states' old.pending page b is class kind c k span awaited rows.awaited);
+pub rows_freed : (old new : PageTable) (page : ℕ) (b : Cells) → state_at old.map page ≡ cut b → (class : ℕ) (kind : Kind) → class ≡ b.class → kind ≡ b.kind → page < length old.pending
+    → IsSpanSet old.map new.map page 1 (λ _. free) → IsBitSet old.ready new.ready class kind page false → IsBitSet old.waiting new.waiting class kind page false → new.pending ≡ set old.pending page false → AreExactRows old → AreExactRows new
+rows_freed old new page b is class kind c k inside span left awaited row rows = record {
+  exact = subst (AreReady new.ready new.map) (sym row) (exact_freed old.ready new.ready old.map new.map old.pending page b is class kind c k span left rows.exact);
+  awaited = subst (AreWaiting new.waiting new.map) (sym row) (awaited_freed old.waiting new.waiting old.map new.map old.pending page b is class kind c k span awaited rows.awaited);
   size = ap length row ∙ length-set old.pending page false ∙ rows.size ∙ sym span.size;
-  cut = λ p h. cut_freed states states' page old.pending inside span rows.cut p (subst (λ r. Has r p) row h);
+  cut = λ p h. cut_freed old.map new.map page old.pending inside span rows.cut p (subst (λ r. Has r p) row h);
 }
 
 -- and no object of the page is left, while all others are

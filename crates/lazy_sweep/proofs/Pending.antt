@@ -7,7 +7,8 @@ use Rattle.words.specs.declared.class.Kind.{Kind}
 use Rattle.blocks.specs.Cells.{Cells}
 use Rattle.block_map.specs.States.{PageState, free, cut, head, body, state_at, IsBlockFor, IsCut}
 use Rattle.lazy_sweep.specs.AvailableRows.{AreReady, AreWaiting, IsBitSet}
-use Rattle.lazy_sweep.specs.Sound.{AreExactRows, Unswept}
+use Rattle.lazy_sweep.specs.Sound.{AreExactRows}
+use Rattle.lazy_sweep.specs.declared.table.PageTable.{PageTable}
 use Rattle.lazy_sweep.proofs.ExactRows.{ready_full, ready_pending, ready_swept, waiting_pending, waiting_swept}
 
 -- the block of a page that is cut for a class and a kind
@@ -31,26 +32,29 @@ cut_left states row page cuts inside p h = ⊎_elim
     (cases_eq p page)
 
 -- a page of this block begins to wait for a sweep, or needs none any more
-module _ (states : List PageState) (ready ready' : List (List Bool)) (old new : Unswept) (class : ℕ) (kind : Kind) (page : ℕ) (b : Cells)
-    (is : state_at states page ≡ cut b) (of_class : class ≡ b.class) (of_kind : kind ≡ b.kind) (inside : page < length old.pending) (rows : AreExactRows states ready old) where
-  pub rows_pending : new.pending ≡ set old.pending page true → IsBitSet ready ready' class kind page false → IsBitSet old.waiting new.waiting class kind page true → AreExactRows states ready' new
+module _ (t : PageTable) (ready waiting : List (List Bool)) (pending : List Bool) (class : ℕ) (kind : Kind) (page : ℕ) (b : Cells)
+    (is : state_at t.map page ≡ cut b) (of_class : class ≡ b.class) (of_kind : kind ≡ b.kind) (inside : page < length t.pending) (rows : AreExactRows t) where
+  abbrev pub after : PageTable
+  after = record t { ready = ready; waiting = waiting; pending = pending }
+
+  pub rows_pending : pending ≡ set t.pending page true → IsBitSet t.ready ready class kind page false → IsBitSet t.waiting waiting class kind page true → AreExactRows after
   rows_pending row left entered = record {
-    exact = subst (AreReady ready' states) (sym row) (ready_pending ready ready' old.waiting new.waiting states old.pending class kind page b is of_class of_kind inside rows.exact left);
-    awaited = subst (AreWaiting new.waiting states) (sym row) (waiting_pending ready ready' old.waiting new.waiting states old.pending class kind page b is of_class of_kind inside rows.awaited entered);
-    size = ap length row ∙ length-set old.pending page true ∙ rows.size;
-    cut = λ p h. cut_entered states old.pending page rows.cut (subst IsCut (sym is) tt) p (subst (λ r. Has r p) row h);
+    exact = subst (AreReady ready t.map) (sym row) (ready_pending t.ready ready t.waiting waiting t.map t.pending class kind page b is of_class of_kind inside rows.exact left);
+    awaited = subst (AreWaiting waiting t.map) (sym row) (waiting_pending t.ready ready t.waiting waiting t.map t.pending class kind page b is of_class of_kind inside rows.awaited entered);
+    size = ap length row ∙ length-set t.pending page true ∙ rows.size;
+    cut = λ p h. cut_entered t.map t.pending page rows.cut (subst IsCut (sym is) tt) p (subst (λ r. Has r p) row h);
   }
 
-  left_row : new.pending ≡ set old.pending page false → AreReady ready' states (set old.pending page false) → IsBitSet old.waiting new.waiting class kind page false → AreExactRows states ready' new
+  left_row : pending ≡ set t.pending page false → AreReady ready t.map (set t.pending page false) → IsBitSet t.waiting waiting class kind page false → AreExactRows after
   left_row row exact left = record {
-    exact = subst (AreReady ready' states) (sym row) exact;
-    awaited = subst (AreWaiting new.waiting states) (sym row) (waiting_swept ready ready' old.waiting new.waiting states old.pending class kind page b is of_class of_kind inside rows.awaited left);
-    size = ap length row ∙ length-set old.pending page false ∙ rows.size;
-    cut = λ p h. cut_left states old.pending page rows.cut inside p (subst (λ r. Has r p) row h);
+    exact = subst (AreReady ready t.map) (sym row) exact;
+    awaited = subst (AreWaiting waiting t.map) (sym row) (waiting_swept t.ready ready t.waiting waiting t.map t.pending class kind page b is of_class of_kind inside rows.awaited left);
+    size = ap length row ∙ length-set t.pending page false ∙ rows.size;
+    cut = λ p h. cut_left t.map t.pending page rows.cut inside p (subst (λ r. Has r p) row h);
   }
 
-  pub rows_swept : new.pending ≡ set old.pending page false → IsBitSet ready ready' class kind page true → IsBitSet old.waiting new.waiting class kind page false → (i : ℕ) × IsFirstClearFrom b.taken 0 i → AreExactRows states ready' new
-  rows_swept row entered left cell = left_row row (ready_swept ready ready' old.waiting new.waiting states old.pending class kind page b is of_class of_kind inside rows.exact entered cell) left
+  pub rows_swept : pending ≡ set t.pending page false → IsBitSet t.ready ready class kind page true → IsBitSet t.waiting waiting class kind page false → (i : ℕ) × IsFirstClearFrom b.taken 0 i → AreExactRows after
+  rows_swept row entered left cell = left_row row (ready_swept t.ready ready t.waiting waiting t.map t.pending class kind page b is of_class of_kind inside rows.exact entered cell) left
 
-  pub rows_full : ready' ≡ ready → new.pending ≡ set old.pending page false → IsBitSet old.waiting new.waiting class kind page false → IsSizeClass class → IsFullRow b.taken → AreExactRows states ready' new
-  rows_full same row left is_class full = left_row row (subst (λ r. AreReady r states (set old.pending page false)) (sym same) (ready_full ready ready old.waiting new.waiting states old.pending class kind page b is of_class of_kind inside is_class rows.exact full)) left
+  pub rows_full : ready ≡ t.ready → pending ≡ set t.pending page false → IsBitSet t.waiting waiting class kind page false → IsSizeClass class → IsFullRow b.taken → AreExactRows after
+  rows_full same row left is_class full = left_row row (subst (λ r. AreReady r t.map (set t.pending page false)) (sym same) (ready_full t.ready t.ready t.waiting waiting t.map t.pending class kind page b is of_class of_kind inside is_class rows.exact full)) left

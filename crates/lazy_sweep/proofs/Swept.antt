@@ -9,9 +9,9 @@ use Rattle.words.specs.Bits.{Has}
 use Rattle.block_map.specs.FoundIn.{found_in}
 use Rattle.block_map.specs.Changes.{IsSameMap}
 use Rattle.block_map.specs.Objects.{IsMap}
-use Rattle.block_map.specs.States.{PageState}
-use Rattle.lazy_sweep.specs.Sound.{SweepsOne, SweepsSome, Unswept}
-use Rattle.lazy_sweep.specs.Store.{Store, store_of}
+use Rattle.lazy_sweep.specs.Sound.{store_with, SweepsOne, SweepsSome}
+use Rattle.lazy_sweep.specs.declared.table.PageTable.{PageTable}
+use Rattle.lazy_sweep.specs.Store.{Store}
 use Rattle.lazy_sweep.specs.Kept.{restrict, is_kept, kept_in}
 use Rattle.lazy_sweep.specs.Sweeps.{Sweeps, SweepsPage}
 use Rattle.lazy_sweep.proofs.Kept.{page_swept}
@@ -54,18 +54,13 @@ sweeps_none old marks map = record { before = map; words = λ f i there lt. refl
 pub sweeps_more : (old : Store) (marks : List Bool) (mid new : Store) → Sweeps old marks mid → Sweeps mid marks new → Sweeps old marks new
 sweeps_more old marks mid new a b = record { before = a.before; words = λ f i there lt. b.words f i there lt ∙ a.words f i (b.less.before f.base f there) lt; pages = b.pages ∙ a.pages; same = record { same = λ w. b.same.same w ∙ a.same.same w }; fewer = λ p h. a.fewer p (b.fewer p h); less = record { before = λ w f there. a.less.before w f (b.less.before w f there) }; waiting = λ w f is h. b.waiting w f (a.waiting w f is (b.fewer f.page h)) h; number = let x = a.number in let y = b.number in omega arith }
 
-module _ (free : List Bool) (states : List PageState) (ready : List (List Bool)) (unswept : Unswept) (marks : List Bool) (free' : List Bool) (states' : List PageState) (ready' : List (List Bool)) (unswept' : Unswept) where
-  pub some_page : (page : ℕ) → IsMap (length states) (found_in states) → Has unswept.pending page → SweepsOne free states ready unswept marks page free' states' ready' unswept' → SweepsSome free states ready unswept marks free' states' ready' unswept'
-  some_page page map was x = record {
-    sweeps = λ words. sweeps_page (store_of words free states unswept.pending) marks page (store_of words free' states' unswept'.pending) map was (x.sweeps words);
-    sound = x.sound;
-    lists = x.lists;
-  }
+module _ (old : PageTable) (marks : List Bool) (mid : PageTable) where
+  pub some_page : (page : ℕ) → IsMap (length old.map) (found_in old.map) → Has old.pending page → SweepsOne old marks page mid → SweepsSome old marks mid
+  some_page page map was x = record { sweeps = λ words. sweeps_page (store_with words old) marks page (store_with words mid) map was (x.sweeps words); sound = x.sound; lists = x.lists }
 
-  pub some_more : (free'' : List Bool) (states'' : List PageState) (ready'' : List (List Bool)) (unswept'' : Unswept) → SweepsSome free states ready unswept marks free' states' ready' unswept'
-      → SweepsSome free' states' ready' unswept' marks free'' states'' ready'' unswept'' → SweepsSome free states ready unswept marks free'' states'' ready'' unswept''
-  some_more free'' states'' ready'' unswept'' a b = record {
-    sweeps = λ words. sweeps_more (store_of words free states unswept.pending) marks (store_of words free' states' unswept'.pending) (store_of words free'' states'' unswept''.pending) (a.sweeps words) (b.sweeps words);
+  pub some_more : (new : PageTable) → SweepsSome old marks mid → SweepsSome mid marks new → SweepsSome old marks new
+  some_more new a b = record {
+    sweeps = λ words. sweeps_more (store_with words old) marks (store_with words mid) (store_with words new) (a.sweeps words) (b.sweeps words);
     sound = b.sound;
     lists = λ words listed. b.lists words (a.lists words listed);
   }

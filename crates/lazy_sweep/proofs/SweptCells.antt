@@ -13,7 +13,8 @@ use Rattle.block_map.specs.States.{PageState, free, cut, state_at, IsBlockFor, I
 use Rattle.block_map.specs.Sweeps.{SweepsObjects}
 use Rattle.marker.specs.Marking.{word_address}
 use Rattle.lazy_sweep.specs.AvailableRows.{IsAvailable, AreReady, AreWaiting}
-use Rattle.lazy_sweep.specs.Sound.{AreExactRows, Unswept}
+use Rattle.lazy_sweep.specs.Sound.{AreExactRows}
+use Rattle.lazy_sweep.specs.declared.table.PageTable.{PageTable}
 use Rattle.lazy_sweep.specs.Store.{Store, Agree, HasObjects}
 use Rattle.lazy_sweep.specs.Sweeps.{SweepsPage}
 use Rattle.lazy_sweep.proofs.GivenPages.{agree_given, used_given}
@@ -66,12 +67,12 @@ module _ (states mid : List PageState) (page : ℕ) (a b : Cells) (was : state_a
       (λ ne. subst IsCut (sym (other p ne)) has)
       (cases_eq p page)
 
-  pub rows_cells : (ready : List (List Bool)) (unswept : Unswept) → Has unswept.pending page → b.class ≡ a.class → b.kind ≡ a.kind → AreExactRows states ready unswept → AreExactRows mid ready unswept
-  rows_cells ready unswept pending class kind rows = record {
-    exact = ready_cells ready unswept.pending pending rows.exact;
-    awaited = waiting_cells unswept.waiting unswept.pending class kind rows.awaited;
-    size = rows.size ∙ sym size_swept;
-    cut = λ p h. cut_cells p (rows.cut p h);
+  pub rows_cells : (t : PageTable) → t.map ≡ states → Has t.pending page → b.class ≡ a.class → b.kind ≡ a.kind → AreExactRows t → AreExactRows (record t { map = mid })
+  rows_cells t at pending class kind rows = record {
+    exact = ready_cells t.ready t.pending pending (subst (λ x. AreReady t.ready x t.pending) at rows.exact);
+    awaited = waiting_cells t.waiting t.pending class kind (subst (λ x. AreWaiting t.waiting x t.pending) at rows.awaited);
+    size = rows.size ∙ ap length at ∙ sym size_swept;
+    cut = λ p h. cut_cells p (subst (λ (x : List PageState). IsCut (state_at x p)) at (rows.cut p h));
   }
 
   pub agree_cells : (row : List Bool) → Agree row states → Agree row mid

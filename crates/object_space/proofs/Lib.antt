@@ -1,3 +1,5 @@
+pub mod Taking
+pub mod Freeing
 pub mod Tables
 pub mod Kept
 pub mod Words

@@ -1,20 +1,19 @@
--- What a sweeper needs of the space, and what it leaves it.
-use Rattle.std.proofs.Common.{ℕ, Bool, List}
+-- What a page table is to the space, and the space to the table.
+use Rattle.std.proofs.Common.{ℕ, List}
 use Rattle.block_map.specs.Listed.{AreListed}
-use Rattle.block_map.specs.States.{PageState}
-use Rattle.lazy_sweep.specs.Sound.{IsSound, Unswept}
-use Rattle.lazy_sweep.specs.Store.{store_of}
+use Rattle.lazy_sweep.specs.Sound.{store_with, IsSound}
+use Rattle.lazy_sweep.specs.declared.table.PageTable.{PageTable}
 use Rattle.object_space.specs.Store.{IsWholeSpace}
 
-module _ (words : List ℕ) (free : List Bool) (states : List PageState) (ready : List (List Bool)) (unswept : Unswept) where
-  pub sound_of : IsWholeSpace (store_of words free states unswept.pending) ready unswept.waiting → IsSound free states ready unswept
+module _ (words : List ℕ) (t : PageTable) where
+  pub sound_of : IsWholeSpace (store_with words t) t.ready t.waiting → IsSound t
   sound_of whole = record {
     agree = whole.sound.agree;
     used = whole.sound.used;
     rows = record { exact = whole.exact; awaited = whole.awaited; size = whole.pending.size; cut = whole.pending.cut };
   }
 
-  pub whole_of : IsSound free states ready unswept → AreListed words states → IsWholeSpace (store_of words free states unswept.pending) ready unswept.waiting
+  pub whole_of : IsSound t → AreListed words t.map → IsWholeSpace (store_with words t) t.ready t.waiting
   whole_of sound listed = record {
     sound = record { agree = sound.agree; used = sound.used };
     listed = listed;

@@ -1,6 +1,5 @@
-//! The objects of a heap: their words, the pages that they lie on, and which pages are free. That the pool and the map
-//! agree on the free pages, and that the lists of free cells stand in the memory, is kept here, and no other module touches
-//! any of the three.
+//! The objects of a heap: their words, and the table of the pages that they lie on. That the lists of free cells stand in the
+//! memory, and that the parts of the table agree, is kept here, and no other module touches the two.
 ghost use Rattle.std.specs.Prelude.{◌≡◌, ℕ, ◌*◌, ◌<◌, ◌≤◌, Bool, List, MatchOption, Some, length};
 ghost use Rattle.words.specs.declared.limits.TheConstants.{MOST_PAGES, PAGE_WORDS};
 ghost use Rattle.words.specs.Bits.{members, IsEmptyFrom};
@@ -26,13 +25,12 @@ mod looks;
 mod mark;
 mod round;
 mod sweep;
-mod taking;
-mod taking_many;
+mod take;
 
-use block_map::{BlockMap, Found};
-use lazy_sweep::{AvailablePages, Sweeper};
+use block_map::Found;
+use lazy_sweep::PageTable;
 use marker::Marker;
-use pages::{FreeRun, Memory, PagePool};
+use pages::{FreeRun, Memory};
 use std::alloc::Global;
 use std::marker::Model;
 use words::{OpenError, PageNo};
@@ -41,22 +39,18 @@ use words::{OpenError, PageNo};
 #[derive(Drop)]
 pub struct ObjectSpace {
     memory: Memory,
-    pool: PagePool,
-    map: BlockMap,
-    // The pages with a free cell that need no sweep.
-    ready: AvailablePages,
-    // The pending pages.
-    sweeper: Sweeper,
+    table: PageTable,
 }
 
 impl Model for ObjectSpace {
+    ghost use Rattle.lazy_sweep.specs.Sound.{store_with};
     ghost use Rattle.object_space.specs.Store.{Store, IsWholeSpace};
 
     ghost Value = { Store };
 
-    ghost view = { λ o. record { words = o.memory; free = o.pool; states = o.map; pending = o.sweeper.pending } };
+    ghost view = { λ o. store_with o.memory o.table };
 
-    ghost invariant = { λ o. IsWholeSpace (record { words = o.memory; free = o.pool; states = o.map; pending = o.sweeper.pending }) o.ready o.sweeper.waiting };
+    ghost invariant = { λ o. IsWholeSpace (store_with o.memory o.table) o.table.ready o.table.waiting };
 }
 
 impl ObjectSpace {
@@ -65,17 +59,8 @@ impl ObjectSpace {
         ensures { IsOpenedWithin MOST_PAGES pages result (λ objects. IsSwept objects × ((keep : Found → Bool) → Stores keep objects (opening pages))) }
     {
         let memory = Memory::new(alloc, pages)?;
-        let pool = PagePool::new(alloc, pages)?;
-        let map = BlockMap::new(alloc, pages)?;
-        let ready = AvailablePages::new(alloc, pages)?;
-        let sweeper = Sweeper::new(alloc, pages)?;
-        Ok(ObjectSpace {
-            memory,
-            pool,
-            map,
-            ready,
-            sweeper,
-        })
+        let table = PageTable::new(alloc, pages)?;
+        Ok(ObjectSpace { memory, table })
     }
 
     /// What is true of every store: its free pages are exactly those on which no object lies, and the pending
@@ -88,7 +73,7 @@ impl ObjectSpace {
         ensures lawful { IsLawful self.now.states }
         ensures laid { IsLaid self.now.states }
     {
-        self.map.laws();
+        self.table.map.laws();
     }
 
     /// All that is true of every store, with what no caller has to know: the lists of free cells, and the rows of the pages
@@ -97,14 +82,14 @@ impl ObjectSpace {
     pub fn whole(&self)
         ensures { IsWholeStore self.now }
     {
-        let _ready = &self.ready;
+        let _table = &self.table;
     }
 
     /// The number of pages.
     pub fn pages(&self) -> u32
         ensures { result ≡ length self.now.states }
     {
-        self.map.len()
+        self.table.map.len()
     }
 
     /// How many pages, from the first one on, may have an object.
@@ -113,28 +98,28 @@ impl ObjectSpace {
         ensures inside { result ≤ length self.now.states }
         ensures below { (w : ℕ) (f : Found) → found_in self.now.states w ≡ Some f → page_of w < result }
     {
-        self.map.used()
+        self.table.map.used()
     }
 
     /// How many pages are free. Those that may have an object are counted by whole words.
     pub fn count_free(&self) -> u32
         ensures { result ≡ members self.now.free }
     {
-        self.pool.count_free(self.map.used())
+        self.table.pool.count_free(self.table.map.used())
     }
 
     /// The lowest run of free pages from a page on.
     pub fn next_free_run(&self, low: PageNo) -> Option<FreeRun>
         ensures { MatchOption result (IsEmptyFrom self.now.free low) (λ run. IsNextRun self.now.free low run) }
     {
-        self.pool.next_run(low)
+        self.table.pool.next_run(low)
     }
 
     /// How many pages are pending.
     pub fn count_pending(&self) -> u32
         ensures { result ≡ members self.now.pending }
     {
-        self.sweeper.pending()
+        self.table.count_pending()
     }
 
     /// The kept object that a word points into. On a pending page only marked objects are kept.
@@ -146,10 +131,10 @@ impl ObjectSpace {
         ensures long { length self.now.words ≡ PAGE_WORDS * length self.now.states }
     {
         marker.laws();
-        let Some(found) = self.map.find(word) else {
+        let Some(found) = self.table.map.find(word) else {
             return None;
         };
-        if self.sweeper.is_pending(found.page) && !marker.is_marked(found.base) {
+        if self.table.is_pending(found.page) && !marker.is_marked(found.base) {
             return None;
         }
         Some(found)
@@ -171,7 +156,7 @@ impl ObjectSpace {
         requires object { (f : Found) × (found_in self.old.states address ≡ Some f) }
         ensures { self.new ≡ record self.old { words = with_word_at self.old.words address word } }
     {
-        self.map.laws();
+        self.table.map.laws();
         self.memory.write(address, word);
     }
 }

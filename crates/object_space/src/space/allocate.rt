@@ -4,18 +4,33 @@ ghost use Rattle.std.specs.Prelude.{◌≡◌, ◌⊎◌, Bool, List, IfNone, If
 ghost use Rattle.words.specs.Bits.{Has};
 ghost use Rattle.block_map.specs.Listed.{IsLinked};
 ghost use Rattle.block_map.specs.States.{state_at};
-ghost use Rattle.lazy_sweep.specs.AvailableRows.{IsAvailable, HasNoFreeCell};
+ghost use Rattle.lazy_sweep.specs.AvailableRows.{IsAvailable, IsReadyPage, HasNoFreeCell};
 ghost use Rattle.object_space.specs.Many.{HasNoneReady};
-ghost use Rattle.object_space.specs.Rooms.{IsRequest, HasRoomAt, HasNoRoom};
-ghost use Rattle.object_space.specs.Sweeps.{Allocates, FindsNoPlace, FindsNoRoom, Gains, Sweeps};
+ghost use Rattle.object_space.specs.Rooms.{IsRequest};
+ghost use Rattle.object_space.specs.Sweeps.{Allocates, FindsNoPlace, FindsNoRoom, Sweeps};
 
 use super::ObjectSpace;
-use super::taking::{cut_page, take_cell};
 use marker::Marker;
-use words::limits::PAGE_WORDS;
-use words::{Class, Kind, PageNo, Placement, page_start};
+use words::{Class, Kind, PageNo, Placement};
 
 impl ObjectSpace {
+    // The lowest page with a free cell for the class and the kind that needs no sweep, with a list of its free cells.
+    #[inline(always)]
+    pub(super) fn ready_page(&mut self, class: Class, kind: Kind) -> Option<PageNo>
+        ensures sweeps { (marks : List Bool) → Sweeps self.old marks self.new }
+        ensures some { IfSome result (λ page. IsReadyPage self.new.states self.new.pending page class kind × IsLinked (state_at self.new.states page)) }
+        ensures none { IfNone result (HasNoneReady self.old (Placement.Small class) kind × (self.new ≡ self.old)) }
+        ensures free { self.new.free ≡ self.old.free }
+    {
+        self.table.map.laws();
+        let Some(page) = self.table.ready.first(class, kind) else {
+            return None;
+        };
+        let page = page as PageNo;
+        self.link_page(page, class, kind);
+        Some(page)
+    }
+
     // A page with a free cell for the class and the kind that is not pending. Pending pages for them are swept
     // first, one by one.
     #[inline(always)]
@@ -25,101 +40,7 @@ impl ObjectSpace {
         ensures some { IfSome result (λ page. IsAvailable (state_at self.new.states page) class kind × (Has self.new.pending page → ⊥)) }
         ensures none { IfNone result (HasNoFreeCell self.new.states class kind) }
     {
-        self.sweeper.sweep_for(
-            &mut self.pool,
-            &mut self.map,
-            &mut self.ready,
-            marker,
-            class,
-            kind,
-        )
-    }
-
-    // Makes the free cells of a page a list, if they are none.
-    #[inline(always)]
-    pub(super) fn link_page(&mut self, page: PageNo, class: Class, kind: Kind)
-        requires cell { IsAvailable (state_at self.old.states page) class kind }
-        ensures sweeps { (marks : List Bool) → Sweeps self.old marks self.new }
-        ensures cell { IsAvailable (state_at self.new.states page) class kind }
-        ensures linked { IsLinked (state_at self.new.states page) }
-        ensures pending { self.new.pending ≡ self.old.pending }
-        ensures free { self.new.free ≡ self.old.free }
-    {
-        self.map.laws();
-        self.map.link(&mut self.memory, page);
-    }
-
-    // Takes the first free cell of a page that has one and a list of them.
-    #[inline(always)]
-    fn take_cell(&mut self, page: PageNo, class: Class, kind: Kind) -> u64
-        requires cell { IsAvailable (state_at self.old.states page) class kind }
-        requires linked { IsLinked (state_at self.old.states page) }
-        requires swept { Has self.old.pending page → ⊥ }
-        ensures room { HasRoomAt self.old (Placement.Small class) kind result }
-        ensures gains { Gains self.old (Placement.Small class) kind result self.new }
-        ensures free { self.new.free ≡ self.old.free }
-    {
-        self.map.laws();
-        take_cell(
-            &mut self.memory,
-            &mut self.map,
-            &mut self.ready,
-            &self.sweeper,
-            page,
-            class,
-            kind,
-        )
-    }
-
-    // Cuts a free page, and takes its first cell.
-    #[inline(never)]
-    fn take_page(&mut self, class: Class, kind: Kind) -> Option<u64>
-        requires { HasNoFreeCell self.old.states class kind }
-        ensures some { IfSome result (λ base. HasRoomAt self.old (Placement.Small class) kind base) }
-        ensures gains { IfSome result (λ base. Gains self.old (Placement.Small class) kind base self.new) }
-        ensures none { IfNone result (HasNoRoom self.old (Placement.Small class) kind × (self.new ≡ self.old)) }
-    {
-        self.map.laws();
-        let Some(page) = cut_page(
-            &mut self.memory,
-            &mut self.pool,
-            &mut self.map,
-            &mut self.ready,
-            &self.sweeper,
-            class,
-            kind,
-        ) else {
-            return None;
-        };
-        Some(take_cell(
-            &mut self.memory,
-            &mut self.map,
-            &mut self.ready,
-            &self.sweeper,
-            page,
-            class,
-            kind,
-        ))
-    }
-
-    // Takes a run of free pages.
-    #[inline(never)]
-    fn take_run(&mut self, pages: u32, kind: Kind) -> Option<u64>
-        requires { IsRequest (Placement.Large pages) }
-        ensures some { IfSome result (λ base. HasRoomAt self.old (Placement.Large pages) kind base) }
-        ensures gains { IfSome result (λ base. Gains self.old (Placement.Large pages) kind base self.new) }
-        ensures none { IfNone result (HasNoRoom self.old (Placement.Large pages) kind × (self.new ≡ self.old)) }
-    {
-        if pages > self.map.len() {
-            return None;
-        }
-        let Some(first) = self.pool.take_run(pages) else {
-            return None;
-        };
-        self.map.cut_large(first, pages, kind);
-        let base = page_start(first);
-        self.memory.zero(base, PAGE_WORDS as u32 * pages);
-        Some(base)
+        self.table.sweep_for(marker, class, kind)
     }
 
     // A place for a small object.
@@ -147,23 +68,6 @@ impl ObjectSpace {
             Placement::Small(class) => self.place_small(marker, *class, kind),
             Placement::Large(pages) => self.take_run(*pages, kind),
         }
-    }
-
-    // The first free cell of the lowest page for the class and the kind that needs no sweep.
-    #[inline(always)]
-    fn take_ready(&mut self, class: Class, kind: Kind) -> Option<u64>
-        ensures allocates { (marks : List Bool) → IfSome result (λ base. Allocates self.old marks (Placement.Small class) kind base self.new) }
-        ensures none { IfNone result (self.new ≡ self.old) }
-        ensures free { self.new.free ≡ self.old.free }
-        ensures unready { IfNone result (HasNoneReady self.old (Placement.Small class) kind) }
-    {
-        self.map.laws();
-        let Some(page) = self.ready.first(class, kind) else {
-            return None;
-        };
-        let page = page as PageNo;
-        self.link_page(page, class, kind);
-        Some(self.take_cell(page, class, kind))
     }
 
     // Takes a place for a new object where none is ready: it sweeps as it needs, and takes free pages.
@@ -197,9 +101,9 @@ impl ObjectSpace {
     {
         self.laws();
         if let Placement::Small(class) = &placement
-            && let Some(base) = self.take_ready(*class, kind)
+            && let Some(page) = self.ready_page(*class, kind)
         {
-            return Some(base);
+            return Some(self.take_cell(page, *class, kind));
         }
         self.search(marker, placement, kind)
     }

@@ -1,17 +1,37 @@
 //! Where many new objects of a class and kind go in one call: into cells of one page that is cut for them.
-ghost use Rattle.std.specs.Prelude.{◌≡◌, ℕ, ◌<◌, ◌≤◌, Bool, List, length, slice_index_or, take};
+ghost use Rattle.std.specs.Prelude.{◌≡◌, ◌+◌, ◌*◌, ℕ, ◌<◌, ◌≤◌, All, Bool, List, length, map, slice_index_or, take};
+ghost use Rattle.words.specs.declared.limits.TheConstants.{PAGE_WORDS};
 ghost use Rattle.words.specs.Bits.{Has};
 ghost use Rattle.block_map.specs.Listed.{IsLinked};
 ghost use Rattle.block_map.specs.States.{state_at};
 ghost use Rattle.lazy_sweep.specs.AvailableRows.{IsAvailable};
-ghost use Rattle.object_space.specs.Many.{AllocatesEach, HasNoneReady};
+ghost use Rattle.object_space.specs.Many.{AllocatesEach, HasNoneReady, ZeroesEach, base_of};
 
 use super::ObjectSpace;
-use super::taking_many::{take_cells, write_bases};
-use words::{Class, Kind, PageNo, Placement};
+use pages::Memory;
+use words::limits::WORD_BYTES;
+use words::{Class, Kind, PageNo, Placement, page_start};
 
 // So many cells at most are taken in one call.
 const MOST_CELLS: usize = 32;
+
+// Writes 0 into the words of these cells of a page, and writes down their bases.
+fn write_bases(memory: &mut Memory, page: PageNo, class: Class, cells: &[u16], bases: &mut [u64])
+    requires page { PAGE_WORDS * page + PAGE_WORDS ≤ length memory.old }
+    requires inside { All (λ cell. cell * class + class ≤ PAGE_WORDS) cells.now }
+    requires room { length cells.now ≤ length bases.old }
+    ensures zeroes { ZeroesEach class memory.old (map (base_of page class) cells.now) memory.new }
+    ensures size { length bases.new ≡ length bases.old }
+    ensures bases { take (length cells.now) bases.new ≡ map (base_of page class) cells.now }
+    ensures rest { (k : ℕ) → length cells.now ≤ k → slice_index_or bases.new k 0 ≡ slice_index_or bases.old k 0 }
+{
+    let words = class.words();
+    for i in 0..cells.len() {
+        let base = page_start(page) + u64::from(cells[i]) * (WORD_BYTES * u64::from(words));
+        bases[i] = base;
+        memory.zero(base, u32::from(words));
+    }
+}
 
 impl ObjectSpace {
     // Takes cells of the lowest page that has a free one for the class and the kind and needs no sweep.
@@ -22,15 +42,12 @@ impl ObjectSpace {
         ensures allocates { (marks : List Bool) → AllocatesEach marks (Placement.Small class) kind self.old (take result bases.new) self.new }
         ensures rest { (k : ℕ) → result ≤ k → slice_index_or bases.new k 0 ≡ slice_index_or bases.old k 0 }
     {
-        self.map.laws();
-        let Some(page) = self.ready.first(class, kind) else {
-            return 0;
-        };
         if bases.len() == 0 {
             return 0;
         }
-        let page = page as PageNo;
-        self.link_page(page, class, kind);
+        let Some(page) = self.ready_page(class, kind) else {
+            return 0;
+        };
         self.take_linked(page, class, kind, bases)
     }
 
@@ -45,21 +62,16 @@ impl ObjectSpace {
         ensures allocates { (marks : List Bool) → AllocatesEach marks (Placement.Small class) kind self.old (take result bases.new) self.new }
         ensures rest { (k : ℕ) → result ≤ k → slice_index_or bases.new k 0 ≡ slice_index_or bases.old k 0 }
     {
-        self.map.laws();
+        self.table.map.laws();
         let mut row = [0u16; MOST_CELLS];
         let cells = &mut row[..bases.len().min(MOST_CELLS)];
-        let count = take_cells(
-            &self.memory,
-            &mut self.map,
-            &mut self.ready,
-            &self.sweeper,
-            page,
-            class,
-            kind,
-            cells,
-        );
-        write_bases(&mut self.memory, page, class, &cells[..count], bases);
-        count
+        let taken = self.table.map.take_many(&self.memory, page, cells);
+        self.table.map.laws();
+        write_bases(&mut self.memory, page, class, &cells[..taken.count], bases);
+        if taken.is_full {
+            self.table.ready.leave(class, kind, page);
+        }
+        taken.count
     }
 
     /// Takes places for new objects in the lowest page that has a free cell for them and needs no sweep, as many as that page

@@ -70,7 +70,7 @@ impl ObjectSpace {
         ensures along { TakesAlong (kept_in self.old.states self.old.pending marker.now.marks) links.old self.old self.new }
         ensures lawful { IsLawful self.old.states }
     {
-        self.map.laws();
+        self.table.map.laws();
         if links.is_empty() {
             return;
         }

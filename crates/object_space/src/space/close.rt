@@ -36,7 +36,7 @@ impl ObjectSpace {
         ensures reads { result.n ≤ PAGE_WORDS * (dirty_pages marker.old + newly_pages (found_in self.now.states) marker.old marker.new) + entry_words (found_in self.now.states) marker.old }
     {
         let mut reader = Reader::new(&self.memory);
-        close_marks(marker, &self.map, &mut reader, roots);
+        close_marks(marker, &self.table.map, &mut reader, roots);
         reads_of(&reader)
     }
 
@@ -58,12 +58,12 @@ impl ObjectSpace {
         ensures traces { Traces (found_in self.now.states) self.now.words roots.now marker.old marker.new }
         ensures lawful { IsLawful self.now.states }
     {
-        self.map.laws();
+        self.table.map.laws();
         close_marks_with(
             rt,
             alloc,
             marker,
-            &self.map,
+            &self.table.map,
             &self.memory,
             roots,
             helpers,

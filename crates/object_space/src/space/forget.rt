@@ -31,15 +31,14 @@ impl ObjectSpace {
     {
         self.laws();
         marker.laws();
-        let Some(block) = self.map.block(page) else {
+        let Some(block) = self.table.map.block(page) else {
             return self.forget_large(marker, page);
         };
         let unmarked = block.allocated() - marker.marks_on(page);
         if unmarked > 0 {
             let class = block.class();
             let kind = block.kind();
-            self.sweeper
-                .make_pending(&self.map, &mut self.ready, page, class, kind);
+            self.table.make_pending(page, class, kind);
         }
         unmarked
     }
@@ -53,7 +52,7 @@ impl ObjectSpace {
     {
         self.laws();
         marker.laws();
-        let Some(found) = self.map.large_on(page) else {
+        let Some(found) = self.table.map.large_on(page) else {
             return 0;
         };
         if marker.is_marked(found.base) {
@@ -74,7 +73,7 @@ impl ObjectSpace {
         self.laws();
         let mut count = 0;
         let mut low = 0;
-        while let Some(page) = self.pool.next_taken(low) {
+        while let Some(page) = self.table.pool.next_taken(low) {
             count += u64::from(self.forget_on(marker, page));
             low = page + 1;
         }

@@ -11,6 +11,6 @@ impl ObjectSpace {
         ensures { result ≡ slice_index_or self.now.pending page false }
     {
         self.laws();
-        self.sweeper.is_pending(page)
+        self.table.is_pending(page)
     }
 }

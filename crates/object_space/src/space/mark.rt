@@ -26,7 +26,7 @@ impl ObjectSpace {
         ensures dirty { StaysDirty marker.old marker.new }
         ensures lawful { IsLawful self.now.states }
     {
-        marker.scan_roots(&self.map, roots);
+        marker.scan_roots(&self.table.map, roots);
     }
 
     /// Reads at most so many words of entries.
@@ -42,9 +42,9 @@ impl ObjectSpace {
         ensures taken { TakesOff (found_in self.now.states) self.now.words marker.old marker.new }
         ensures lawful { IsLawful self.now.states }
     {
-        self.map.laws();
+        self.table.map.laws();
         let mut reader = Reader::new(&self.memory);
-        marker.step(&self.map, &mut reader, budget)
+        marker.step(&self.table.map, &mut reader, budget)
     }
 
     /// Reads at most so many words of entries, while others write on dirty pages: the memory is read at these moments.
@@ -60,9 +60,9 @@ impl ObjectSpace {
         ensures dirty { StaysDirty marker.old marker.new }
         ensures lawful { IsLawful self.now.states }
     {
-        self.map.laws();
+        self.table.map.laws();
         let mut beside = Reader::beside(&self.memory, moments);
-        marker.step(&self.map, &mut beside, budget)
+        marker.step(&self.table.map, &mut beside, budget)
     }
 
     /// Reads the lowest dirty page again, on which nobody writes, while others write on other dirty pages: the memory is read at
@@ -77,9 +77,9 @@ impl ObjectSpace {
         ensures traces { TracesIn (found_in self.now.states) moments.list marker.old marker.new }
         ensures lawful { IsLawful self.now.states }
     {
-        self.map.laws();
+        self.table.map.laws();
         let mut beside = Reader::beside(&self.memory, moments);
-        marker.retrace(&self.map, &mut beside)
+        marker.retrace(&self.table.map, &mut beside)
     }
 
     /// Reads this page again, on which nobody writes, if it is dirty, and answers whether it was, while others write on other dirty
@@ -95,9 +95,9 @@ impl ObjectSpace {
         ensures traces { TracesIn (found_in self.now.states) moments.list marker.old marker.new }
         ensures lawful { IsLawful self.now.states }
     {
-        self.map.laws();
+        self.table.map.laws();
         let mut beside = Reader::beside(&self.memory, moments);
-        marker.retrace_page(&self.map, &mut beside, page)
+        marker.retrace_page(&self.table.map, &mut beside, page)
     }
 
     /// Reads the lowest dirty page again.
@@ -108,8 +108,8 @@ impl ObjectSpace {
         ensures traces { Traces (found_in self.now.states) self.now.words [] marker.old marker.new }
         ensures lawful { IsLawful self.now.states }
     {
-        self.map.laws();
+        self.table.map.laws();
         let mut reader = Reader::new(&self.memory);
-        marker.retrace(&self.map, &mut reader)
+        marker.retrace(&self.table.map, &mut reader)
     }
 }

@@ -37,7 +37,7 @@ impl ObjectSpace {
         ensures round { IfOk result (λ d. IsRound (round_view d.0 marker.now self.now.states self.now.words []) d.0) }
         ensures crew { IfOk result (λ d. AreServing (round_view d.0 marker.now self.now.states self.now.words []) 0 d.1.items) }
     {
-        Round::deal(alloc, marker, &self.map, used, helpers)
+        Round::deal(alloc, marker, &self.table.map, used, helpers)
     }
 
     /// Does a helper's share: what was dealt to it, and what that leads to. Once it has read so many words of objects that it was the
@@ -46,7 +46,7 @@ impl ObjectSpace {
         requires { IsServing (round_view round.now marker.now self.now.states self.now.words []) helper.old }
         ensures { HasServed (round_view round.now marker.now self.now.states self.now.words []) helper.old.place helper.new }
     {
-        round.help(marker, &self.map, &self.memory, &[], most, helper)
+        round.help(marker, &self.table.map, &self.memory, &[], most, helper)
     }
 
     /// Puts together what the helpers won and left, of whom each has done its share.
@@ -59,7 +59,7 @@ impl ObjectSpace {
         ensures dirty { DirtiesNew (found_in self.now.states) marker.old marker.new }
         ensures lawful { IsLawful self.now.states }
     {
-        self.map.laws();
-        round.gather(marker, &self.map, &self.memory, &[], crew);
+        self.table.map.laws();
+        round.gather(marker, &self.table.map, &self.memory, &[], crew);
     }
 }

@@ -15,8 +15,7 @@ impl ObjectSpace {
         ensures page { result ≡ true → SweepsAny self.old marker.now.marks self.new }
         ensures fewer { result ≡ true → count_by (λ b. b) self.new.pending + 1 ≡ count_by (λ b. b) self.old.pending }
     {
-        self.sweeper
-            .step(&mut self.pool, &mut self.map, &mut self.ready, marker)
+        self.table.step(marker)
     }
 
     /// Sweeps all pending pages.
@@ -25,7 +24,6 @@ impl ObjectSpace {
         ensures sweeps { Sweeps self.old marker.now.marks self.new }
         ensures swept { IsSwept self.new }
     {
-        self.sweeper
-            .sweep_all(&mut self.pool, &mut self.map, &mut self.ready, marker);
+        self.table.sweep_all(marker);
     }
 }

@@ -3,7 +3,7 @@ use Rattle.std.proofs.Common.{subst, sym}
 use Rattle.object_space.specs.Store.{Store}
 use Rattle.object_space.proofs.AvailablePages.{available_inside}
 use Rattle.object_space.proofs.Linked.{available_is, offers_linked, sweeps_linked, whole_linked}
-use Rattle.lazy_sweep.specs.Store.{store_of}
+use Rattle.lazy_sweep.specs.Sound.{store_with}
 use Rattle.object_space.proofs.space.ObjectSpace.link_page.Goals as goal
 
 pub link-requires-clause-inside : goal.link-requires-clause-inside
@@ -14,14 +14,14 @@ link-requires-clause-cut c = subst IsCut (sym (available_is _ c.args.class c.arg
 
 pub invariant_of-self : goal.invariant_of-self
 invariant_of-self c =
-    let t : Store = store_of c.self.inside.memory c.self.inside.pool c.self.inside.map c.self.inside.sweeper.pending in
+    let t : Store = store_with c.self.inside.memory c.self.inside.table in
     let cell = rw (← c.self.view_is) at c.requires.cell in
     whole_linked t c.link.new.self c.link.new.memory c.args.page c.laws.ensures.laid (available_inside _ c.args.class c.args.kind c.args.page cell) (available_is _ c.args.class c.args.kind cell)
     c.link.ensures.states c.link.ensures.first _ _ c.self.invariant c.link.ensures.listed
 
 pub returns-clause-sweeps : goal.returns-clause-sweeps
 returns-clause-sweeps c marks =
-    let t : Store = store_of c.self.inside.memory c.self.inside.pool c.self.inside.map c.self.inside.sweeper.pending in
+    let t : Store = store_with c.self.inside.memory c.self.inside.table in
     let cell = rw (← c.self.view_is) at c.requires.cell in
     rw (← c.self.view_is)
     (sweeps_linked t c.link.new.self c.link.new.memory c.args.page c.laws.ensures.laid (available_inside _ c.args.class c.args.kind c.args.page cell) (available_is _ c.args.class c.args.kind cell)

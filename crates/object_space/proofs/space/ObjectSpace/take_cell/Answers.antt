@@ -1,29 +1,44 @@
-use Rattle.std.proofs.Common.{refl, true, sym, ap, ◌∙◌, subst, List, length, length-set, get_or-set_other}
-use Rattle.block_map.specs.States.{PageState, free, IsCut, state_at}
-use Rattle.words.specs.Bits.{Has}
-use Rattle.object_space.proofs.AvailablePages.{waiting_same}
-use Rattle.object_space.proofs.Pending.{pending_cut, cut_cell}
-use Rattle.object_space.proofs.Allocations.{allocates_cell, gains_cell, sound_cell}
+use Rattle.object_space.proofs.Allocations.{first_words}
+use Rattle.object_space.proofs.AvailablePages.{available_inside}
+use Rattle.object_space.proofs.Taking.{gains_taken, room_taken, whole_filled, whole_left}
 use Rattle.object_space.proofs.space.ObjectSpace.take_cell.Goals as goal
+
+pub zero-requires-clause-address : goal.zero-requires-clause-address
+zero-requires-clause-address c =
+    let t = c.in-Some.ensures in
+    (first_words _ _ _ c.args.page c.in-Some.taken.object c.laws.ensures.laid (available_inside _ c.args.class c.args.kind c.args.page (rw (← c.self.view_is) at c.requires.cell)) t.free t.states t.added t.object t.listed).0
+
+pub zero-requires-clause-inside : goal.zero-requires-clause-inside
+zero-requires-clause-inside c =
+    let t = c.in-Some.ensures in
+    (first_words _ _ _ c.args.page c.in-Some.taken.object c.laws.ensures.laid (available_inside _ c.args.class c.args.kind c.args.page (rw (← c.self.view_is) at c.requires.cell)) t.free t.states t.added t.object t.listed).1
 
 pub invariant_of-self : goal.invariant_of-self
 invariant_of-self c =
-    let cell = c.take_cell.ensures.cell in
-    let swept = rw (← c.self.view_is) at c.requires.swept in
-    record {
-      sound = sound_cell _ _ _ c.args.page _ _ _ _ c.self.invariant.sound c.laws.ensures.laid c.laws.ensures.lawful cell c.take_cell.ensures.takes swept;
-      listed = c.take_cell.ensures.listed;
-      pending = pending_cut _ _ c.self.invariant.pending refl (ap length c.take_cell.ensures.takes.became ∙ length-set _ _ _)
-          (λ p is. subst (λ (x : List PageState). IsCut (state_at x p)) (sym c.take_cell.ensures.takes.became) (cut_cell _ c.args.page _ true _ cell.inside p is));
-      exact = c.take_cell.ensures.exact;
-      awaited = waiting_same _ _ _ _ c.self.invariant.awaited (ap length c.take_cell.ensures.takes.became ∙ length-set _ _ _)
-          (λ p h. ap (λ x. state_at x p) c.take_cell.ensures.takes.became ∙ get_or-set_other _ c.args.page p _ free (λ e. swept (subst (Has c.self.inside.sweeper.pending) e h)));
-    }
+    let t = c.in-Some.ensures in
+    whole_filled c.self.inside.memory c.self.inside.table c.self.invariant c.laws.ensures.laid c.laws.ensures.lawful c.args.class c.args.kind c.args.page (rw (← c.self.view_is) at c.requires.cell) (rw (← c.self.view_is) at c.requires.swept) _ _ t.free t.states t.added t.object t.listed _ c.zero.ensures _ c.leave.ensures (rw c.if-taken.true at t.last)
 
-pub returns-clause-room : goal.returns-clause-room
-returns-clause-room c = rw (← c.self.view_is)
-    (allocates_cell _ _ _ c.args.page _ _ _ _ c.self.invariant.sound c.laws.ensures.laid c.laws.ensures.lawful c.take_cell.ensures.cell c.take_cell.ensures.takes)
+pub invariant_of-self-else-taken : goal.invariant_of-self-else-taken
+invariant_of-self-else-taken c =
+    let t = c.in-Some.ensures in
+    whole_left c.self.inside.memory c.self.inside.table c.self.invariant c.laws.ensures.laid c.laws.ensures.lawful c.args.class c.args.kind c.args.page (rw (← c.self.view_is) at c.requires.cell) (rw (← c.self.view_is) at c.requires.swept) _ _ t.free t.states t.added t.object t.listed _ c.zero.ensures (rw c.if-taken.false at t.last)
 
-pub returns-clause-gains : goal.returns-clause-gains
-returns-clause-gains c = rw (← c.self.view_is)
-    (gains_cell _ _ _ c.args.page _ _ _ _ c.laws.ensures.laid c.laws.ensures.lawful c.take_cell.ensures.cell c.take_cell.ensures.takes (rw (← c.self.view_is) at c.requires.swept))
+pub returns-then-taken-clause-room : goal.returns-then-taken-clause-room
+returns-then-taken-clause-room c =
+    let t = c.in-Some.ensures in
+    rw (← c.self.view_is) (room_taken c.self.inside.memory c.self.inside.table c.self.invariant c.laws.ensures.laid c.laws.ensures.lawful c.args.class c.args.kind c.args.page (rw (← c.self.view_is) at c.requires.cell) (rw (← c.self.view_is) at c.requires.swept) _ _ t.free t.states t.added t.object t.listed _ c.zero.ensures)
+
+pub returns-then-taken-clause-gains : goal.returns-then-taken-clause-gains
+returns-then-taken-clause-gains c =
+    let t = c.in-Some.ensures in
+    rw (← c.self.view_is) (gains_taken c.self.inside.memory c.self.inside.table c.self.invariant c.laws.ensures.laid c.laws.ensures.lawful c.args.class c.args.kind c.args.page (rw (← c.self.view_is) at c.requires.cell) (rw (← c.self.view_is) at c.requires.swept) _ _ t.free t.states t.added t.object t.listed _ c.zero.ensures)
+
+pub returns-else-taken-clause-room : goal.returns-else-taken-clause-room
+returns-else-taken-clause-room c =
+    let t = c.in-Some.ensures in
+    rw (← c.self.view_is) (room_taken c.self.inside.memory c.self.inside.table c.self.invariant c.laws.ensures.laid c.laws.ensures.lawful c.args.class c.args.kind c.args.page (rw (← c.self.view_is) at c.requires.cell) (rw (← c.self.view_is) at c.requires.swept) _ _ t.free t.states t.added t.object t.listed _ c.zero.ensures)
+
+pub returns-else-taken-clause-gains : goal.returns-else-taken-clause-gains
+returns-else-taken-clause-gains c =
+    let t = c.in-Some.ensures in
+    rw (← c.self.view_is) (gains_taken c.self.inside.memory c.self.inside.table c.self.invariant c.laws.ensures.laid c.laws.ensures.lawful c.args.class c.args.kind c.args.page (rw (← c.self.view_is) at c.requires.cell) (rw (← c.self.view_is) at c.requires.swept) _ _ t.free t.states t.added t.object t.listed _ c.zero.ensures)

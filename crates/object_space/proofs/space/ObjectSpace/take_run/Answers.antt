@@ -11,7 +11,7 @@ use Rattle.object_space.proofs.space.ObjectSpace.take_run.Goals as goal
 pub returns-in_default-clause-none : goal.returns-in_default-clause-none
 returns-in_default-clause-none c = rw (← c.self.view_is) (
   no_room_large _ _ c.args.kind c.self.invariant.sound c.len.ensures.laid c.len.ensures.lawful c.in_default.ensures.none.0,
-  ap (λ p. store_of c.self.inside.memory p c.self.inside.map c.self.inside.sweeper.pending) c.in_default.ensures.none.1,
+  ap (λ p. store_of c.self.inside.memory p c.self.inside.table.map c.self.inside.table.pending) c.in_default.ensures.none.1,
 )
 
 pub cut_large-requires-clause-inside : goal.cut_large-requires-clause-inside

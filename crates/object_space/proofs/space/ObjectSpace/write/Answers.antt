@@ -8,7 +8,7 @@ invariant_of-self c =
     let object = rw (← c.self.view_is) at c.requires.object in
     record {
       sound = record { agree = c.self.invariant.sound.agree; used = c.self.invariant.sound.used };
-      listed = subst (λ w. AreListed w c.self.inside.map) (sym c.write.ensures)
+      listed = subst (λ w. AreListed w c.self.inside.table.map) (sym c.write.ensures)
           (listed_write _ _ c.laws.ensures.laid c.args.address c.args.word object.0 (rw (← c.self.view_is) at c.requires.address) object.1 c.self.invariant.listed);
       exact = c.self.invariant.exact;
       awaited = c.self.invariant.awaited;
