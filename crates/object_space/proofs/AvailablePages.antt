@@ -14,7 +14,7 @@ use Rattle.block_map.specs.FreeCells.{IsFullOn}
 use Rattle.block_map.specs.Listed.{HasFirst}
 use Rattle.block_map.proofs.Seen.{within}
 use Rattle.block_map.proofs.Spans.{place_of}
-use Rattle.lazy_sweep.specs.AvailableRows.{row_of, HasFreeCell, IsAvailable, IsReadyPage, IsWaitingPage, AreReady, AreWaiting, IsBitSet, IsFreeCell}
+use Rattle.lazy_sweep.specs.AvailableRows.{HasFreeCell, IsAvailable, IsReadyPage, IsWaitingPage, AreReady, AreWaiting, IsBitSet, IsFreeCell}
 use Rattle.object_space.proofs.Rooms.{cell_below}
 use Rattle.lazy_sweep.proofs.ExactRows.{OffersOnly, cut_offers, exact_same, free_cell_offers, free_offers, ready_changed, same_bit}
 
@@ -92,9 +92,6 @@ module _ (rows rows' : List (List Bool)) (states states' : List PageState) (row 
   opens_after : OffersOnly (state_at states' page) class kind
   opens_after = subst (λ st. OffersOnly st class kind) (sym taken_state) (subst (λ k. OffersOnly (cut filled) class k) at.of_kind (subst (λ c. OffersOnly (cut filled) c at.block.kind) at.of_class (cut_offers filled)))
 
-  pub taken_inside : page < length (row_of rows class kind)
-  taken_inside = let long = exact.long class kind is_class in let inside = at.inside in omega arith
-
   pub exact_filled : IsBitSet rows rows' class kind page false → IsFullOn (state_at states' page) → AreReady rows' states' row
   exact_filled bit_is full = ready_changed rows rows' states states' row row class kind page false bit_is taken_size taken_other (λ p ne. refl) exact opens_before opens_after
       (λ e. absurd (true≢false (sym e)))
@@ -113,9 +110,6 @@ module _ (rows rows' : List (List Bool)) (states states' : List PageState) (row 
 -- a free page is cut
 module _ (rows rows' : List (List Bool)) (states states' : List PageState) (row : List Bool) (class : ℕ) (kind : Kind) (page : ℕ) (exact : AreReady rows states row) (is_class : IsSizeClass class)
     (inside : page < length states) (was : state_at states page ≡ free) (cuts : (p : ℕ) → Has row p → IsCut (state_at states p)) where
-  pub cut_inside : page < length (row_of rows class kind)
-  cut_inside = let long = exact.long class kind is_class in omega arith
-
   first_free : HasFreeCell (record { class = class; kind = kind; taken = replicate (PAGE_WORDS / class) false; first = 0 }) class kind
   first_free =
       let b = class_bounds class is_class in

@@ -54,9 +54,6 @@ module _ (rows rows' : List (List Bool)) (states mid : List PageState) (row : Li
       let w = was_cut in
       subst (λ st. OffersOnly st b.class b.kind) (sym w.1) (subst (λ k. OffersOnly (cut w.0) b.class k) w.3 (subst (λ c. OffersOnly (cut w.0) c w.0.kind) w.2 (cut_offers w.0)))
 
-  pub freed_inside : page < length (row_of rows b.class b.kind)
-  freed_inside = let long = exact.long b.class b.kind is_class in omega arith
-
   of_block : (class : ℕ) (kind : Kind) (v : Bool) → class ≡ b.class → kind ≡ b.kind → IsBitSet rows rows' class kind page v → IsBitSet rows rows' b.class b.kind page v
   of_block class kind v c k bit_is = subst (λ l. IsBitSet rows rows' b.class l page v) k (subst (λ d. IsBitSet rows rows' d kind page v) c bit_is)
 

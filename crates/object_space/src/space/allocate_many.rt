@@ -34,23 +34,6 @@ fn write_bases(memory: &mut Memory, page: PageNo, class: Class, cells: &[u16], b
 }
 
 impl ObjectSpace {
-    // Takes cells of the lowest page that has a free one for the class and the kind and needs no sweep.
-    fn take_many(&mut self, class: Class, kind: Kind, bases: &mut [u64]) -> usize
-        ensures size { length bases.new ≡ length bases.old }
-        ensures few { result ≤ length bases.new }
-        ensures none { 0 < length bases.new → result ≡ 0 → HasNoneReady self.old (Placement.Small class) kind }
-        ensures allocates { (marks : List Bool) → AllocatesEach marks (Placement.Small class) kind self.old (take result bases.new) self.new }
-        ensures rest { (k : ℕ) → result ≤ k → slice_index_or bases.new k 0 ≡ slice_index_or bases.old k 0 }
-    {
-        if bases.len() == 0 {
-            return 0;
-        }
-        let Some(page) = self.ready_page(class, kind) else {
-            return 0;
-        };
-        self.take_linked(page, class, kind, bases)
-    }
-
     // Takes cells of a page that has a free one and a list of them.
     fn take_linked(&mut self, page: PageNo, class: Class, kind: Kind, bases: &mut [u64]) -> usize
         requires cell { IsAvailable (state_at self.old.states page) class kind }
@@ -85,9 +68,15 @@ impl ObjectSpace {
         ensures allocates { (marks : List Bool) → AllocatesEach marks placement.now kind self.old (take result bases.new) self.new }
         ensures rest { (k : ℕ) → result ≤ k → slice_index_or bases.new k 0 ≡ slice_index_or bases.old k 0 }
     {
-        match placement {
-            Placement::Small(class) => self.take_many(*class, kind, bases),
-            Placement::Large(_) => 0,
+        let Placement::Small(class) = placement else {
+            return 0;
+        };
+        if bases.len() == 0 {
+            return 0;
         }
+        let Some(page) = self.ready_page(*class, kind) else {
+            return 0;
+        };
+        self.take_linked(page, *class, kind, bases)
     }
 }
