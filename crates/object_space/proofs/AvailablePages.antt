@@ -1,6 +1,6 @@
 -- The rows of pages with a free cell stay exact while pages change.
 use Rattle.std.proofs.Common.{◌≡◌, ℕ, ◌+◌, ◌<◌, ◌≤◌, Bool, true, false, List, length, set, replicate, refl, sym, ap, ◌∙◌, subst, arith, ⊎_elim, length-set, get_or-set_same, get_or-set_other}
-use Rattle.std.specs.Prelude.{◌≢◌, ◌==◌, ◌/◌, if◌then◌else◌}
+use Rattle.std.specs.Prelude.{◌==◌, ◌/◌, if◌then◌else◌}
 use Rattle.std.proofs.lemmas.Bool.{cases_eq, true≢false}
 use Rattle.std.proofs.lemmas.List.{get_or-replicate, length-replicate}
 use Rattle.words.specs.declared.limits.TheConstants.{PAGE_WORDS}
@@ -9,14 +9,13 @@ use Rattle.words.specs.declared.class.Kind.{Kind}
 use Rattle.words.specs.Classes.{IsSizeClass}
 use Rattle.blocks.specs.Cells.{Cells}
 use Rattle.blocks.proofs.Places.{class_bounds}
-use Rattle.block_map.specs.States.{PageState, free, cut, head, body, state_at, HasCell, IsSpanSet, IsCut, IsBlockFor, all_free, with_cell, large_states, LaidAt, IsLaid}
+use Rattle.block_map.specs.States.{PageState, free, cut, head, body, state_at, HasCell, IsSpanSet, IsCut, IsBlockFor, all_free, large_states, LaidAt, IsLaid}
 use Rattle.block_map.specs.FreeCells.{IsFullOn}
-use Rattle.block_map.specs.Listed.{HasFirst}
 use Rattle.block_map.proofs.Seen.{within}
 use Rattle.block_map.proofs.Spans.{place_of}
 use Rattle.lazy_sweep.specs.AvailableRows.{HasFreeCell, IsAvailable, IsReadyPage, IsWaitingPage, AreReady, AreWaiting, IsBitSet, IsFreeCell}
 use Rattle.object_space.proofs.Rooms.{cell_below}
-use Rattle.lazy_sweep.proofs.ExactRows.{OffersOnly, cut_offers, exact_same, free_cell_offers, free_offers, ready_changed, same_bit}
+use Rattle.lazy_sweep.proofs.ExactRows.{OffersOnly, cut_offers, exact_same, free_offers, ready_changed}
 
 -- pages change, and no pending one
 pub waiting_same : (rows : List (List Bool)) (states states' : List PageState) (row : List Bool) → AreWaiting rows states row → length states' ≡ length states
@@ -70,42 +69,6 @@ available_cell states class kind page cell has is_free = by (state_at states pag
     by (cut b) is has at = record { block = b; inside = available_inside states class kind page (subst (λ st. IsAvailable st class kind) (sym is) has); is_cut = is; of_class = has.of_class; of_kind = has.of_kind; in_row = at.0; is_free = at.1 }
     by (head n k) is has at = absurd has
     by (body q) is has at = absurd has
-
--- a cell is taken
-module _ (rows rows' : List (List Bool)) (states states' : List PageState) (row : List Bool) (class : ℕ) (kind : Kind) (page cell next : ℕ) (exact : AreReady rows states row) (is_class : IsSizeClass class)
-    (swept : Has row page → ⊥) (at : IsFreeCell states class kind page cell) (became : states' ≡ set states page (with_cell (state_at states page) cell true next)) where
-  abbrev pub filled : Cells
-  filled = record at.block { taken = set at.block.taken cell true; first = next }
-
-  pub taken_state : state_at states' page ≡ cut filled
-  taken_state = ap (λ x. state_at x page) became ∙ get_or-set_same states page _ free at.inside ∙ ap (λ st. with_cell st cell true next) at.is_cut
-
-  pub taken_size : length states' ≡ length states
-  taken_size = ap length became ∙ length-set states page _
-
-  taken_other : (p : ℕ) → p ≢ page → state_at states' p ≡ state_at states p
-  taken_other p ne = ap (λ x. state_at x p) became ∙ get_or-set_other states page p _ free ne
-
-  opens_before : OffersOnly (state_at states page) class kind
-  opens_before = subst (λ st. OffersOnly st class kind) (sym at.is_cut) (subst (λ k. OffersOnly (cut at.block) class k) at.of_kind (subst (λ c. OffersOnly (cut at.block) c at.block.kind) at.of_class (cut_offers at.block)))
-
-  opens_after : OffersOnly (state_at states' page) class kind
-  opens_after = subst (λ st. OffersOnly st class kind) (sym taken_state) (subst (λ k. OffersOnly (cut filled) class k) at.of_kind (subst (λ c. OffersOnly (cut filled) c at.block.kind) at.of_class (cut_offers filled)))
-
-  pub exact_filled : IsBitSet rows rows' class kind page false → IsFullOn (state_at states' page) → AreReady rows' states' row
-  exact_filled bit_is full = ready_changed rows rows' states states' row row class kind page false bit_is taken_size taken_other (λ p ne. refl) exact opens_before opens_after
-      (λ e. absurd (true≢false (sym e)))
-      (λ has. absurd (available_not_full (state_at states' page) class kind has.0 full))
-
-  pub exact_taken : HasFirst (state_at states' page) → AreReady rows states' row
-  exact_taken has = ready_changed rows rows states states' row row class kind page true
-      (same_bit rows class kind page true (exact.entered class kind page is_class (free_cell_offers states class kind page cell at, swept)))
-      taken_size taken_other (λ p ne. refl) exact opens_before opens_after
-      (λ _. (subst (λ st. IsAvailable st class kind) (sym taken_state) (first_of (subst HasFirst taken_state has)), swept))
-      (λ _. refl)
-    where
-      first_of : HasFirst (cut filled) → HasFreeCell filled class kind
-      first_of first = record { of_class = at.of_class; of_kind = at.of_kind; cell = next; in_row = first.0; is_free = first.1 }
 
 -- a free page is cut
 module _ (rows rows' : List (List Bool)) (states states' : List PageState) (row : List Bool) (class : ℕ) (kind : Kind) (page : ℕ) (exact : AreReady rows states row) (is_class : IsSizeClass class)

@@ -159,6 +159,15 @@ pub record KeepsPages (states new : List PageState) (page class : ℕ) (kind : K
   pub before : IsBlockFor (state_at states page) class kind
   pub after : IsBlockFor (state_at new page) class kind
 
+-- its first free cell was taken
+pub one_taken : (links : List ℕ) (states new : List PageState) (class : ℕ) (kind : Kind) (page : ℕ) → page < length states → IsBlockFor (state_at states page) class kind → new ≡ after_take links states page → KeepsPages states new page class kind
+one_taken links states new class kind page inside block became = record {
+  size = ap length became ∙ taken_pages links states page;
+  others = λ p ne. ap (λ x. state_at x p) became ∙ get_or-set_other states page p (with_taken links page (state_at states page)) free ne;
+  before = block;
+  after = subst (λ (x : List PageState). IsBlockFor (state_at x page) class kind) (sym became) (taken_block links states class kind page inside block);
+}
+
 -- ---- cells of the page are taken one after the other
 -- objects that were there are still
 added_stays : (found after : ℕ → Option Found) (f : Found) → IsAdded found after f → (w : ℕ) (g : Found) → found w ≡ Some g → after w ≡ Some g
@@ -180,13 +189,9 @@ module _ (class : ℕ) (kind : Kind) (page : ℕ) (links : List ℕ) where
   pub keeps_pages : {states new : List PageState} {cells : List ℕ} → page < length states → IsBlockFor (state_at states page) class kind → TakesCells links page states cells new → KeepsPages states new page class kind
   keeps_pages inside block TakesCells.done = record { size = refl; others = λ p ne. refl; before = block; after = block }
   keeps_pages {states = states} inside block (TakesCells.next laid at first added rest) =
-      let keeps = keeps_pages (taken_inside links states page inside) (taken_block links states class kind page inside block) rest in
-      record {
-        size = keeps.size ∙ taken_pages links states page;
-        others = λ p ne. keeps.others p ne ∙ get_or-set_other states page p (with_taken links page (state_at states page)) free ne;
-        before = block;
-        after = keeps.after;
-      }
+      let one = one_taken links states (after_take links states page) class kind page inside block refl in
+      let keeps = keeps_pages (taken_inside links states page inside) one.after rest in
+      record { size = keeps.size ∙ one.size; others = λ p ne. keeps.others p ne ∙ one.others p ne; before = block; after = keeps.after }
 
   -- one at least
   pub some_taken : (states new : List PageState) (cells : List ℕ) (count : ℕ) → IsAvailable (state_at states page) class kind → TakesCells links page states (take count cells) new

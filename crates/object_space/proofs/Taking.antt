@@ -25,8 +25,9 @@ use Rattle.lazy_sweep.proofs.ExactRows.{free_cell_offers}
 use Rattle.object_space.specs.Store.{IsWholeSpace, Store}
 use Rattle.object_space.specs.Sweeps.{Gains}
 use Rattle.object_space.proofs.Allocations.{allocates_cell, allocates_page, cut_laid, first_cell, first_is, first_zeroed, free_swept, gains_cell, gains_page, sound_cell, sound_page, takes_first}
-use Rattle.object_space.proofs.AvailablePages.{available_cell, available_class, available_inside, available_not_full, exact_cut, exact_filled, exact_taken, waiting_same}
-use Rattle.object_space.proofs.Pending.{pending_cut, cut_cell, cut_page}
+use Rattle.object_space.proofs.AvailablePages.{available_cell, available_class, available_inside, available_not_full, exact_cut, waiting_same}
+use Rattle.object_space.proofs.Many.{KeepsPages, available_block, cells_cut, cells_waiting, one_taken, ready_filled, ready_left}
+use Rattle.object_space.proofs.Pending.{pending_cut, cut_page}
 
 module _ (words : List ℕ) (t : PageTable) (whole : IsWholeSpace (store_with words t) t.ready t.waiting) (laid : IsLaid t.map) (lawful : IsLawful t.map)
     (class : ℕ) (kind : Kind) (page : ℕ) (has : IsAvailable (state_at t.map page) class kind) (swept : Has t.pending page → ⊥)
@@ -48,29 +49,25 @@ module _ (words : List ℕ) (t : PageTable) (whole : IsWholeSpace (store_with wo
   pub gains_taken : Gains (store_with words t) (Small class) kind f.base after
   gains_taken = gains_cell (store_with words t) class kind page (first_on (state_at t.map page)) f.base words' states' laid lawful at takes swept
 
-  size : length states' ≡ length t.map
-  size = ap length takes.became ∙ length-set t.map page _
+  keeps : KeepsPages t.map states' page class kind
+  keeps = one_taken words t.map states' class kind page (available_inside t.map class kind page has) (available_block (state_at t.map page) class kind has) became
 
   whole_taken : (ready' : List (List Bool)) → AreReady ready' states' t.pending → IsWholeSpace after ready' t.waiting
   whole_taken ready' exact = record {
     sound = sound_cell (store_with words t) class kind page (first_on (state_at t.map page)) f.base words' states' whole.sound laid lawful at takes swept;
     listed = first_zeroed words t.map states' page f laid (available_inside t.map class kind page has) first became added is words' zeroed listed;
-    pending = pending_cut (store_with words t) after whole.pending refl size
-        (λ p cut. subst (λ (x : List PageState). IsCut (state_at x p)) (sym takes.became) (cut_cell t.map page (first_on (state_at t.map page)) true takes.next at.inside p cut));
+    pending = pending_cut (store_with words t) after whole.pending refl keeps.size (cells_cut t.map states' page class kind keeps);
     exact = exact;
-    awaited = waiting_same t.waiting t.map states' t.pending whole.awaited size
-        (λ p h. ap (λ x. state_at x p) takes.became ∙ get_or-set_other t.map page p _ free (λ e. swept (subst (Has t.pending) e h)));
+    awaited = cells_waiting t.map states' page class kind keeps t.waiting t.pending whole.awaited swept;
   }
 
   -- the last free cell
   pub whole_filled : (ready' : List (List Bool)) → IsBitSet t.ready ready' class kind page false → IsFullOn (state_at states' page) → IsWholeSpace after ready' t.waiting
-  whole_filled ready' left full = whole_taken ready'
-      (exact_filled t.ready ready' t.map states' t.pending class kind page _ _ whole.exact (available_class t.map class kind page laid has) swept at became left full)
+  whole_filled ready' left full = whole_taken ready' (ready_filled t.map states' page class kind keeps t.ready ready' t.pending whole.exact left full)
 
   -- or another is left
   pub whole_left : HasFirst (state_at states' page) → IsWholeSpace after t.ready t.waiting
-  whole_left more = whole_taken t.ready
-      (exact_taken t.ready t.ready t.map states' t.pending class kind page _ _ whole.exact (available_class t.map class kind page laid has) swept at became more)
+  whole_left more = whole_taken t.ready (ready_left t.map states' page class kind keeps t.ready t.pending whole.exact (available_class t.map class kind page laid has) has swept more)
 
 -- a page that is cut has more than one cell
 second_left : (class : ℕ) (kind : Kind) (words : List ℕ) (page : ℕ) → IsSizeClass class → IsFullOn (with_taken words page (all_free class kind)) → ⊥
@@ -121,8 +118,8 @@ module _ (words : List ℕ) (t : PageTable) (whole : IsWholeSpace (store_with wo
   not_swept : Has t.pending page → ⊥
   not_swept = free_swept (store_with words t) page whole.pending was
 
-  apart : (p : ℕ) → Has t.pending p → p ≡ page → ⊥
-  apart p h e = not_swept (subst (Has t.pending) e h)
+  kept : KeepsPages mid states' page class kind
+  kept = one_taken words₁ mid states' class kind page (omega (arith, mid_size, within)) (available_block (state_at mid page) class kind offers) became
 
   more_left : (was_last : Bool) → MatchBool was_last (IsFullOn (state_at states' page)) (HasFirst (state_at states' page)) → HasFirst (state_at states' page)
   more_left false has = has
@@ -133,13 +130,12 @@ module _ (words : List ℕ) (t : PageTable) (whole : IsWholeSpace (store_with wo
   whole_cut ready' was_last entered last = record {
     sound = sound_page (store_with words t) whole.sound laid lawful class kind is_class page words₁ free' mid cuts f.base words' states' first_taken whole.pending;
     listed = first_zeroed words₁ mid states' page f mid_laid (omega (arith, mid_size, within)) first became added is words' zeroed listed;
-    pending = pending_cut (store_with words t) after_cut whole.pending refl (ap length became ∙ length-set mid page _ ∙ mid_size)
-        (λ p cut. subst (λ (x : List PageState). IsCut (state_at x p)) (sym first_taken.became) (cut_cell mid page 0 true first_taken.next (omega (arith, mid_size, within)) p
-        (subst (λ (x : List PageState). IsCut (state_at x p)) (sym cuts.became) (cut_page t.map page (all_free class kind) was p cut))));
-    exact = exact_taken ready' ready' mid states' t.pending class kind page _ _ (exact_cut t.ready ready' t.map mid t.pending class kind page whole.exact is_class within was whole.pending.cut cuts.became entered)
-        is_class not_swept (available_cell mid class kind page _ offers first) became (more_left was_last last);
-    awaited = waiting_same t.waiting t.map states' t.pending whole.awaited (ap length became ∙ length-set mid page _ ∙ mid_size)
-        (λ p h. ap (λ x. state_at x p) became ∙ get_or-set_other mid page p _ free (apart p h) ∙ ap (λ x. state_at x p) cuts.became ∙ get_or-set_other t.map page p _ free (apart p h));
+    pending = pending_cut (store_with words t) after_cut whole.pending refl (kept.size ∙ mid_size)
+        (λ p cut. cells_cut mid states' page class kind kept p (subst (λ (x : List PageState). IsCut (state_at x p)) (sym cuts.became) (cut_page t.map page (all_free class kind) was p cut)));
+    exact = ready_left mid states' page class kind kept ready' t.pending (exact_cut t.ready ready' t.map mid t.pending class kind page whole.exact is_class within was whole.pending.cut cuts.became entered)
+        is_class offers not_swept (more_left was_last last);
+    awaited = cells_waiting mid states' page class kind kept t.waiting t.pending
+        (waiting_same t.waiting t.map mid t.pending whole.awaited mid_size (λ p h. ap (λ x. state_at x p) cuts.became ∙ get_or-set_other t.map page p _ free (λ e. not_swept (subst (Has t.pending) e h)))) not_swept;
   }
 
 -- a page that was cut just now is not full
