@@ -72,22 +72,15 @@ module _ (words : List ℕ) (t : PageTable) (whole : IsWholeSpace (store_with wo
 -- a page that is cut has more than one cell
 second_left : (class : ℕ) (kind : Kind) (words : List ℕ) (page : ℕ) → IsSizeClass class → IsFullOn (with_taken words page (all_free class kind)) → ⊥
 second_left class kind words page is_class full =
-    let n : ℕ = PAGE_WORDS / class in
     let bounds = class_bounds class is_class in
     let more : 1 < PAGE_WORDS / class = cell_below class 1 (omega (arith, bounds.0)) (omega (arith, bounds.1)) in
     let row : List Bool = replicate (PAGE_WORDS / class) false in
     let size : length (set row 0 true) ≡ PAGE_WORDS / class = length-set row 0 true ∙ length-replicate (PAGE_WORDS / class) false in
     false≢true (sym (get_or-set_other row 0 1 true false (omega arith) ∙ get_or-replicate (PAGE_WORDS / class) 1 false false more) ∙ full 1 (omega (arith, size, more)))
 
--- a free page is cut, and its first cell is taken
+-- a free page is cut
 module _ (words : List ℕ) (t : PageTable) (whole : IsWholeSpace (store_with words t) t.ready t.waiting) (laid : IsLaid t.map) (lawful : IsLawful t.map)
-    (class : ℕ) (kind : Kind) (is_class : IsSizeClass class) (page : ℕ) (words₁ : List ℕ) (free' : List Bool) (mid : List PageState) (cuts : CutsPage words words₁ t.pool free' t.map mid class kind page)
-    (states' : List PageState) (f : Found) (first : HasFirst (state_at mid page)) (became : states' ≡ set mid page (with_taken words₁ page (state_at mid page)))
-    (added : IsAdded (found_in mid) (found_in states') f) (is : f ≡ first_object page (state_at mid page)) (listed : AreListed words₁ states')
-    (words' : List ℕ) (zeroed : IsZeroed words₁ words' (word_index f.base) f.len) where
-  abbrev pub after_cut : Store
-  after_cut = record { words = words'; free = free'; states = states'; pending = t.pending }
-
+    (class : ℕ) (kind : Kind) (is_class : IsSizeClass class) (page : ℕ) (words₁ : List ℕ) (free' : List Bool) (mid : List PageState) (cuts : CutsPage words words₁ t.pool free' t.map mid class kind page) where
   was : state_at t.map page ≡ free
   was = whole.sound.agree.free_in_map page (cuts.run.free page (omega arith) (omega arith))
 
@@ -97,49 +90,54 @@ module _ (words : List ℕ) (t : PageTable) (whole : IsWholeSpace (store_with wo
   mid_size : length mid ≡ length t.map
   mid_size = ap length cuts.became ∙ length-set t.map page _
 
-  mid_laid : IsLaid mid
-  mid_laid = cut_laid (store_with words t) whole.sound laid lawful class kind is_class page words₁ free' mid cuts
-
-  begins : first_on (state_at mid page) ≡ 0
-  begins = first_is (store_with words t) whole.sound laid lawful class kind is_class page words₁ free' mid cuts
+  mid_within : page < length mid
+  mid_within = omega (arith, mid_size, within)
 
   offers : IsAvailable (state_at mid page) class kind
   offers = free_cell_offers mid class kind page 0 (first_cell (store_with words t) whole.sound laid lawful class kind is_class page words₁ free' mid cuts)
 
-  first_taken : TakesCell words₁ words' mid states' page 0 f.base
-  first_taken = subst (λ i. TakesCell words₁ words' mid states' page i f.base) begins (takes_first words₁ mid states' page f mid_laid (omega (arith, mid_size, within)) first became added is words' zeroed)
-
-  pub room_cut : HasRoomAt (store_with words t) (Small class) kind f.base
-  room_cut = allocates_page (store_with words t) whole.sound laid lawful class kind is_class page words₁ free' mid cuts f.base words' states' first_taken whole.pending
-
-  pub gains_cut : Gains (store_with words t) (Small class) kind f.base after_cut
-  gains_cut = gains_page (store_with words t) whole.sound laid lawful class kind is_class page words₁ free' mid cuts f.base words' states' first_taken whole.pending
-
   not_swept : Has t.pending page → ⊥
   not_swept = free_swept (store_with words t) page whole.pending was
 
-  kept : KeepsPages mid states' page class kind
-  kept = one_taken words₁ mid states' class kind page (omega (arith, mid_size, within)) (available_block (state_at mid page) class kind offers) became
+  pub never_full : IsFullOn (state_at mid page) → ⊥
+  never_full full = available_not_full (state_at mid page) class kind offers full
 
-  more_left : (was_last : Bool) → MatchBool was_last (IsFullOn (state_at states' page)) (HasFirst (state_at states' page)) → HasFirst (state_at states' page)
-  more_left false has = has
-  more_left true full = absurd (second_left class kind words₁ page is_class (subst IsFullOn
-      (ap (λ x. state_at x page) became ∙ get_or-set_same mid page _ free (omega (arith, mid_size, within)) ∙ ap (with_taken words₁ page) (ap (λ x. state_at x page) cuts.became ∙ get_or-set_same t.map page _ free within)) full))
+  -- and its first cell is taken
+  module _ (states' : List PageState) (f : Found) (first : HasFirst (state_at mid page)) (became : states' ≡ set mid page (with_taken words₁ page (state_at mid page)))
+      (added : IsAdded (found_in mid) (found_in states') f) (is : f ≡ first_object page (state_at mid page)) (listed : AreListed words₁ states')
+      (words' : List ℕ) (zeroed : IsZeroed words₁ words' (word_index f.base) f.len) where
+    abbrev pub after_cut : Store
+    after_cut = record { words = words'; free = free'; states = states'; pending = t.pending }
 
-  pub whole_cut : (ready' : List (List Bool)) (was_last : Bool) → IsBitSet t.ready ready' class kind page true → MatchBool was_last (IsFullOn (state_at states' page)) (HasFirst (state_at states' page)) → IsWholeSpace after_cut ready' t.waiting
-  whole_cut ready' was_last entered last = record {
-    sound = sound_page (store_with words t) whole.sound laid lawful class kind is_class page words₁ free' mid cuts f.base words' states' first_taken whole.pending;
-    listed = first_zeroed words₁ mid states' page f mid_laid (omega (arith, mid_size, within)) first became added is words' zeroed listed;
-    pending = pending_cut (store_with words t) after_cut whole.pending refl (kept.size ∙ mid_size)
-        (λ p cut. cells_cut mid states' page class kind kept p (subst (λ (x : List PageState). IsCut (state_at x p)) (sym cuts.became) (cut_page t.map page (all_free class kind) was p cut)));
-    exact = ready_left mid states' page class kind kept ready' t.pending (exact_cut t.ready ready' t.map mid t.pending class kind page whole.exact is_class within was whole.pending.cut cuts.became entered)
-        is_class offers not_swept (more_left was_last last);
-    awaited = cells_waiting mid states' page class kind kept t.waiting t.pending
-        (waiting_same t.waiting t.map mid t.pending whole.awaited mid_size (λ p h. ap (λ x. state_at x p) cuts.became ∙ get_or-set_other t.map page p _ free (λ e. not_swept (subst (Has t.pending) e h)))) not_swept;
-  }
+    mid_laid : IsLaid mid
+    mid_laid = cut_laid (store_with words t) whole.sound laid lawful class kind is_class page words₁ free' mid cuts
 
--- a page that was cut just now is not full
-pub never_full : (words : List ℕ) (t : PageTable) → IsWholeSpace (store_with words t) t.ready t.waiting → IsLaid t.map → IsLawful t.map → (class : ℕ) (kind : Kind) → IsSizeClass class → (page : ℕ) (words₁ : List ℕ) (free' : List Bool) (mid : List PageState)
-    → CutsPage words words₁ t.pool free' t.map mid class kind page → IsFullOn (state_at mid page) → ⊥
-never_full words t whole laid lawful class kind is_class page words₁ free' mid cuts full =
-    available_not_full (state_at mid page) class kind (free_cell_offers mid class kind page 0 (first_cell (store_with words t) whole.sound laid lawful class kind is_class page words₁ free' mid cuts)) full
+    first_taken : TakesCell words₁ words' mid states' page 0 f.base
+    first_taken = subst (λ i. TakesCell words₁ words' mid states' page i f.base) (first_is (store_with words t) whole.sound laid lawful class kind is_class page words₁ free' mid cuts)
+        (takes_first words₁ mid states' page f mid_laid mid_within first became added is words' zeroed)
+
+    pub room_cut : HasRoomAt (store_with words t) (Small class) kind f.base
+    room_cut = allocates_page (store_with words t) whole.sound laid lawful class kind is_class page words₁ free' mid cuts f.base words' states' first_taken whole.pending
+
+    pub gains_cut : Gains (store_with words t) (Small class) kind f.base after_cut
+    gains_cut = gains_page (store_with words t) whole.sound laid lawful class kind is_class page words₁ free' mid cuts f.base words' states' first_taken whole.pending
+
+    kept : KeepsPages mid states' page class kind
+    kept = one_taken words₁ mid states' class kind page mid_within (available_block (state_at mid page) class kind offers) became
+
+    more_left : (was_last : Bool) → MatchBool was_last (IsFullOn (state_at states' page)) (HasFirst (state_at states' page)) → HasFirst (state_at states' page)
+    more_left false has = has
+    more_left true full = absurd (second_left class kind words₁ page is_class (subst IsFullOn
+        (ap (λ x. state_at x page) became ∙ get_or-set_same mid page _ free mid_within ∙ ap (with_taken words₁ page) (ap (λ x. state_at x page) cuts.became ∙ get_or-set_same t.map page _ free within)) full))
+
+    pub whole_cut : (ready' : List (List Bool)) (was_last : Bool) → IsBitSet t.ready ready' class kind page true → MatchBool was_last (IsFullOn (state_at states' page)) (HasFirst (state_at states' page)) → IsWholeSpace after_cut ready' t.waiting
+    whole_cut ready' was_last entered last = record {
+      sound = sound_page (store_with words t) whole.sound laid lawful class kind is_class page words₁ free' mid cuts f.base words' states' first_taken whole.pending;
+      listed = first_zeroed words₁ mid states' page f mid_laid mid_within first became added is words' zeroed listed;
+      pending = pending_cut (store_with words t) after_cut whole.pending refl (kept.size ∙ mid_size)
+          (λ p cut. cells_cut mid states' page class kind kept p (subst (λ (x : List PageState). IsCut (state_at x p)) (sym cuts.became) (cut_page t.map page (all_free class kind) was p cut)));
+      exact = ready_left mid states' page class kind kept ready' t.pending (exact_cut t.ready ready' t.map mid t.pending class kind page whole.exact is_class within was whole.pending.cut cuts.became entered)
+          is_class offers not_swept (more_left was_last last);
+      awaited = cells_waiting mid states' page class kind kept t.waiting t.pending
+          (waiting_same t.waiting t.map mid t.pending whole.awaited mid_size (λ p h. ap (λ x. state_at x p) cuts.became ∙ get_or-set_other t.map page p _ free (λ e. not_swept (subst (Has t.pending) e h)))) not_swept;
+    }
