@@ -1,4 +1,4 @@
--- What a page, and the pages of a map, end as where the block of one is lent.
+-- What the pages of a map end as where the block of one is lent.
 use Rattle.std.specs.Prelude.{ℕ, List, slice_set}
 use Rattle.std.specs.Borrow.{Lends, MutBor, Fml}
 use Rattle.blocks.specs.Cells.{Cells}
