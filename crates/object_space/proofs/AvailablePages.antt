@@ -9,11 +9,11 @@ use Rattle.words.specs.declared.class.Kind.{Kind}
 use Rattle.words.specs.Classes.{IsSizeClass}
 use Rattle.blocks.specs.Cells.{Cells}
 use Rattle.blocks.proofs.Places.{class_bounds}
-use Rattle.block_map.specs.States.{PageState, free, cut, head, body, state_at, HasCell, IsSpanSet, IsCut, IsBlockFor, all_free, large_states, LaidAt, IsLaid}
+use Rattle.block_map.specs.States.{PageState, free, cut, head, body, state_at, IsSpanSet, IsCut, IsBlockFor, all_free, large_states, LaidAt, IsLaid}
 use Rattle.block_map.specs.FreeCells.{IsFullOn}
 use Rattle.block_map.proofs.Seen.{within}
 use Rattle.block_map.proofs.Spans.{place_of}
-use Rattle.lazy_sweep.specs.AvailableRows.{HasFreeCell, IsAvailable, IsReadyPage, IsWaitingPage, AreReady, AreWaiting, IsBitSet, IsFreeCell}
+use Rattle.lazy_sweep.specs.AvailableRows.{HasFreeCell, IsAvailable, IsReadyPage, IsWaitingPage, AreReady, AreWaiting, IsBitSet}
 use Rattle.object_space.proofs.Rooms.{cell_below}
 use Rattle.lazy_sweep.proofs.ExactRows.{OffersOnly, cut_offers, exact_same, free_offers, ready_changed}
 
@@ -59,16 +59,6 @@ available_class states class kind page laid has = by (state_at states page) has 
     by (cut b) has laid = subst IsSizeClass has.of_class laid.class
     by (head n k) has laid = absurd has
     by (body q) has laid = absurd has
-
--- a free cell of a page for the class and the kind
-pub available_cell : (states : List PageState) (class : ℕ) (kind : Kind) (page cell : ℕ) → IsAvailable (state_at states page) class kind → HasCell (state_at states page) cell false → IsFreeCell states class kind page cell
-available_cell states class kind page cell has is_free = by (state_at states page) refl has is_free
-  where
-    by : (st : PageState) → state_at states page ≡ st → IsAvailable st class kind → HasCell st cell false → IsFreeCell states class kind page cell
-    by free is has at = absurd has
-    by (cut b) is has at = record { block = b; inside = available_inside states class kind page (subst (λ st. IsAvailable st class kind) (sym is) has); is_cut = is; of_class = has.of_class; of_kind = has.of_kind; in_row = at.0; is_free = at.1 }
-    by (head n k) is has at = absurd has
-    by (body q) is has at = absurd has
 
 -- a free page is cut
 module _ (rows rows' : List (List Bool)) (states states' : List PageState) (row : List Bool) (class : ℕ) (kind : Kind) (page : ℕ) (exact : AreReady rows states row) (is_class : IsSizeClass class)

@@ -103,7 +103,8 @@ block_available (cut b) class kind block has = record { of_class = block.0; of_k
 block_available (head n k) class kind block has = absurd block
 block_available (body q) class kind block has = absurd block
 
-block_free_cell : (states : List PageState) (class : ℕ) (kind : Kind) (page cell : ℕ) → page < length states → IsBlockFor (state_at states page) class kind → HasCell (state_at states page) cell false → IsFreeCell states class kind page cell
+-- a free cell of such a page
+pub block_free_cell : (states : List PageState) (class : ℕ) (kind : Kind) (page cell : ℕ) → page < length states → IsBlockFor (state_at states page) class kind → HasCell (state_at states page) cell false → IsFreeCell states class kind page cell
 block_free_cell states class kind page cell inside block first = by (state_at states page) refl block first
   where
     by : (st : PageState) → state_at states page ≡ st → IsBlockFor st class kind → HasCell st cell false → IsFreeCell states class kind page cell

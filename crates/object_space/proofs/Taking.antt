@@ -14,7 +14,7 @@ use Rattle.block_map.specs.Changes.{IsAdded}
 use Rattle.block_map.specs.FoundIn.{found_in, IsLawful}
 use Rattle.block_map.specs.FreeCells.{IsFullOn}
 use Rattle.block_map.specs.Listed.{first_object, first_on, with_taken, AreListed, HasFirst}
-use Rattle.block_map.specs.States.{PageState, free, all_free, state_at, IsCut, IsLaid}
+use Rattle.block_map.specs.States.{PageState, free, all_free, state_at, IsBlockFor, IsCut, IsLaid}
 use Rattle.block_map.specs.declared.found.Found.{Found}
 use Rattle.lazy_sweep.specs.AvailableRows.{AreReady, IsAvailable, IsBitSet, IsFreeCell}
 use Rattle.lazy_sweep.specs.Sound.{store_with}
@@ -25,8 +25,8 @@ use Rattle.lazy_sweep.proofs.ExactRows.{free_cell_offers}
 use Rattle.object_space.specs.Store.{IsWholeSpace, Store}
 use Rattle.object_space.specs.Sweeps.{Gains}
 use Rattle.object_space.proofs.Allocations.{allocates_cell, allocates_page, cut_laid, first_cell, first_is, first_zeroed, free_swept, gains_cell, gains_page, sound_cell, sound_page, takes_first}
-use Rattle.object_space.proofs.AvailablePages.{available_cell, available_class, available_inside, available_not_full, exact_cut, waiting_same}
-use Rattle.object_space.proofs.Many.{KeepsPages, available_block, cells_cut, cells_waiting, one_taken, ready_filled, ready_left}
+use Rattle.object_space.proofs.AvailablePages.{available_class, available_inside, available_not_full, exact_cut, waiting_same}
+use Rattle.object_space.proofs.Many.{KeepsPages, available_block, block_free_cell, cells_cut, cells_waiting, one_taken, ready_filled, ready_left}
 use Rattle.object_space.proofs.Pending.{pending_cut, cut_page}
 
 module _ (words : List ℕ) (t : PageTable) (whole : IsWholeSpace (store_with words t) t.ready t.waiting) (laid : IsLaid t.map) (lawful : IsLawful t.map)
@@ -37,11 +37,17 @@ module _ (words : List ℕ) (t : PageTable) (whole : IsWholeSpace (store_with wo
   abbrev pub after : Store
   after = record { words = words'; free = t.pool; states = states'; pending = t.pending }
 
+  inside : page < length t.map
+  inside = available_inside t.map class kind page has
+
+  block : IsBlockFor (state_at t.map page) class kind
+  block = available_block (state_at t.map page) class kind has
+
   at : IsFreeCell t.map class kind page (first_on (state_at t.map page))
-  at = available_cell t.map class kind page (first_on (state_at t.map page)) has first
+  at = block_free_cell t.map class kind page (first_on (state_at t.map page)) inside block first
 
   takes : TakesCell words words' t.map states' page (first_on (state_at t.map page)) f.base
-  takes = takes_first words t.map states' page f laid (available_inside t.map class kind page has) first became added is words' zeroed
+  takes = takes_first words t.map states' page f laid inside first became added is words' zeroed
 
   pub room_taken : HasRoomAt (store_with words t) (Small class) kind f.base
   room_taken = allocates_cell (store_with words t) class kind page (first_on (state_at t.map page)) f.base words' states' whole.sound laid lawful at takes
@@ -50,12 +56,12 @@ module _ (words : List ℕ) (t : PageTable) (whole : IsWholeSpace (store_with wo
   gains_taken = gains_cell (store_with words t) class kind page (first_on (state_at t.map page)) f.base words' states' laid lawful at takes swept
 
   keeps : KeepsPages t.map states' page class kind
-  keeps = one_taken words t.map states' class kind page (available_inside t.map class kind page has) (available_block (state_at t.map page) class kind has) became
+  keeps = one_taken words t.map states' class kind page inside block became
 
   whole_taken : (ready' : List (List Bool)) → AreReady ready' states' t.pending → IsWholeSpace after ready' t.waiting
   whole_taken ready' exact = record {
     sound = sound_cell (store_with words t) class kind page (first_on (state_at t.map page)) f.base words' states' whole.sound laid lawful at takes swept;
-    listed = first_zeroed words t.map states' page f laid (available_inside t.map class kind page has) first became added is words' zeroed listed;
+    listed = first_zeroed words t.map states' page f laid inside first became added is words' zeroed listed;
     pending = pending_cut (store_with words t) after whole.pending refl keeps.size (cells_cut t.map states' page class kind keeps);
     exact = exact;
     awaited = cells_waiting t.map states' page class kind keeps t.waiting t.pending whole.awaited swept;
