@@ -151,29 +151,15 @@ acts_kept s slot m h is (Acts.set {r = r} {w = w}) word = register_kept s slot m
 acts_kept s slot m h is (Acts.copied {d = d} {a = a}) word = register_kept s slot m d _ h is (register_is m a is)
 acts_kept s slot m h is (Acts.added {d = d}) word = register_kept s slot m d _ h is (omega arith)
 acts_kept s slot m h is (Acts.subtracted {d = d}) word = register_kept s slot m d _ h is (omega arith)
-acts_kept s slot m h is Acts.got word = h
 acts_kept s slot m h is (Acts.pushed {r = r} few) word = slot_kept s slot _ h (pushed_is m (register m r) is few (register_is m r is))
-acts_kept s slot m h is (Acts.push_full e) word = h
 acts_kept s slot m h is (Acts.popped {r = r} {w = w} rest e) word = let p = popped_is m rest w is e in register_kept s slot (record m { stack = rest }) r w h p.0 p.1
-acts_kept s slot m h is (Acts.pop_empty e) word = h
 acts_kept s slot m h is (Acts.loaded {d = d} {base = base} {o = o} al reads) word = register_kept s slot m d _ h is (word_at o.words _ (h.objects.words base o reads.0))
-acts_kept s slot m h is (Acts.load_misaligned al) word = h
-acts_kept s slot m h is (Acts.load_nothing al none) word = h
 acts_kept s slot m h is (Acts.stored {a = a} {n = n} {r = r} {base = base} {o = o} al reads) word = objects_in s _ s.links h (objects_stored s.pages s.births s.objects base _ _ o h.objects reads.0 (register_is m r is))
     (links_kept s (with_object s base (Some (record o { words = slice_set o.words (index_in base (address m a n)) (register m r) }))) refl (λ b p has. stored_same s base b o p _ _ reads.0 has) h.links)
-acts_kept s slot m h is (Acts.store_misaligned al) word = h
-acts_kept s slot m h is (Acts.store_nothing al none) word = h
 acts_kept s slot m h is (Acts.allocated {d = d} {n = n} {kind = kind} {placement = placement} a e room) word = alloc_kept s slot m d n kind placement a h is e room
-acts_kept s slot m h is (Acts.bad_size e) word = h
-acts_kept s slot m h is (Acts.full e none) word = h
 acts_kept s slot m h is (Acts.freed {r = r} has) word = without_kept s (register m r ∷ []) h
-acts_kept s slot m h is (Acts.free_inside reads ne) word = h
-acts_kept s slot m h is (Acts.free_nothing none) word = h
 acts_kept s slot m h is (Acts.based {d = d} {base = base} {o = o} reads) word =
     register_kept s slot m d base h is (let lies = object_lies s h base o reads.0 in let to = lies.to in let few = h.few_pages in omega arith)
-acts_kept s slot m h is (Acts.base_nothing none) word = h
-acts_kept s slot m h is (Acts.sized reads) word = h
-acts_kept s slot m h is (Acts.size_nothing none) word = h
 acts_kept s slot m h is (Acts.global_got {d = d} {g = g}) word = register_kept s slot m d _ h is (word_at s.globals g h.globals.words)
 acts_kept s slot m h is (Acts.global_put {g = g} {r = r}) word = record {
   some_page = h.some_page;
@@ -185,14 +171,10 @@ acts_kept s slot m h is (Acts.global_put {g = g} {r = r}) word = record {
   globals = row_set _ s.globals g _ h.globals (register_is m r is);
   links = links_kept s _ refl (λ base o has. (o, has, same_object o)) h.links;
 }
-acts_kept s slot m h is (Acts.link_misaligned al) word = h
-acts_kept s slot m h is (Acts.link_nowhere al none) word = h
-acts_kept s slot m h is (Acts.link_in_normal al reads kind) word = h
-acts_kept s slot m h is (Acts.link_to_nothing al reads kind none) word = h
-acts_kept s slot m h is (Acts.links_full al reads kind names few none) word = h
 acts_kept s slot m h is (Acts.linked {a = a} {n = n} {base = base} {named = named} {o = o} {p = p} al reads kind names room) word =
     objects_in s s.objects _ h h.objects (links_linked s (address m a n) base named o p h.links al reads kind names.0 room)
 acts_kept s slot m h is (Acts.unlinked {a = a} {n = n}) word = objects_in s s.objects _ h h.objects (links_unlinked s (address m a n) h.links)
+acts_kept s slot m h is _ word = h
 
 pub calls_sound : (s : Heap) (slot : ℕ) (call : Call) → IsSound s → BringsWord call → {reply : Reply} {s' : Heap} → Calls s slot call reply s' → IsSound s'
 calls_sound s slot call h word (acts {m = m} at act) = acts_kept s slot m h (attached_is s slot m h at) act word

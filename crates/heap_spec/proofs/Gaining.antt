@@ -9,14 +9,15 @@ use Rattle.std.proofs.lemmas.List.Concat.{flat_map-cons}
 use Rattle.std.proofs.lemmas.List.Elements.{Contains-append_left, Contains-append_right, Contains-append_cases, Contains-push_cases, Contains-get_or}
 use Rattle.words.specs.declared.limits.TheConstants.{REGISTERS}
 use Rattle.heap_spec.specs.declared.call.Call.{Call}
-use Rattle.heap_spec.specs.declared.call.Call.TheVariants.{Detach, Set, Copy, Add, Sub, Get, Push, Pop, Load, Store, Alloc, Free, Base, Size, GlobalGet, GlobalPut, Link, Unlink}
+use Rattle.heap_spec.specs.declared.call.Call.TheVariants.{Alloc}
 use Rattle.heap_spec.specs.declared.reply.Reply.{Reply}
 use Rattle.heap_spec.specs.Layout.{PointsInto}
 use Rattle.heap_spec.specs.Heap.{Heap, Object, Mutator as HeapMutator, IsSameObject, HasObject, PointsIntoObject, PointsIntoNothing, IsAttached, words_of_slot, root_words, without, loses_word}
 use Rattle.heap_spec.specs.Room.{length_of}
 use Rattle.heap_spec.specs.Steps.{Acts, Calls, Attaches, acts, vacant, register, with_mutator, with_register, newcomer}
 use Rattle.heap_spec.specs.Runs.{IsBornSince}
-use Rattle.heap_spec.specs.Touching.{StandsIn, IsBrought, HasApartObjects}
+use Rattle.heap_spec.specs.Shapes.{brought_register}
+use Rattle.heap_spec.specs.Touching.{StandsIn, StandsInSome, IsBrought, HasApartObjects}
 use Rattle.heap_spec.proofs.Objects.{at_cases, with_at-same, same_object}
 use Rattle.heap_spec.proofs.Links.{left_by, same_left, cleared_among}
 
@@ -206,30 +207,18 @@ acts_objects s slot m at d _ base p has = inl (as_was s _ _ base p has)
 by_register : (s s' : Heap) → HasApartObjects s' → (slot r w : ℕ) → StandsIn s' slot r w → Contains (root_words s') w ⊎ ((base : ℕ) (o : Object) → PointsIntoObject s' w base o → IsBornSince s o.birth)
 by_register s s' d slot r w x = ⊎_elim (λ among. inl among) (λ none. inr (λ base o reads. absurd (d.zero base o (subst (λ k. PointsIntoObject s' k base o) none reads)))) (stands_held s' slot r w x)
 
+by_some : (s s' : Heap) → HasApartObjects s' → (slot : ℕ) (r : Option ℕ) (w : ℕ) → StandsInSome s' slot r w → Contains (root_words s') w ⊎ ((base : ℕ) (o : Object) → PointsIntoObject s' w base o → IsBornSince s o.birth)
+by_some s s' d slot None w x = absurd x
+by_some s s' d slot (Some r) w x = by_register s s' d slot r w x
+
 -- a word that a call brought is a root word, or points into nothing but what is new
 brought_held : (s : Heap) (slot : ℕ) (call : Call) (s' : Heap) → HasApartObjects s' → (w : ℕ) → IsBrought s slot call s' w
     → Contains (root_words s') w ⊎ ((base : ℕ) (o : Object) → PointsIntoObject s' w base o → IsBornSince s o.birth)
-brought_held s slot Detach s' d w x = absurd x
-brought_held s slot (Get r) s' d w x = absurd x
-brought_held s slot (Free r) s' d w x = absurd x
-brought_held s slot (Size r) s' d w x = absurd x
-brought_held s slot (Link a n r) s' d w x = absurd x
-brought_held s slot (Unlink a n) s' d w x = absurd x
 brought_held s slot (Alloc r n kind) s' d w x = inr (λ base o reads.
     let some = d.some w x.0 x.1 in
     let same : base ≡ w = d.one w base w o x.0 reads (x.1, (omega arith, omega arith)) in
     subst (λ (p : Object). IsBornSince s p.birth) (same_Some x.0 o (sym x.1 ∙ ap s'.objects (sym same) ∙ reads.0)) x.2)
-brought_held s slot (Set r n) s' d w x = by_register s s' d slot r w x
-brought_held s slot (Copy r a) s' d w x = by_register s s' d slot r w x
-brought_held s slot (Add r a n) s' d w x = by_register s s' d slot r w x
-brought_held s slot (Sub r a b) s' d w x = by_register s s' d slot r w x
-brought_held s slot (Push r) s' d w x = by_register s s' d slot r w x
-brought_held s slot (Pop r) s' d w x = by_register s s' d slot r w x
-brought_held s slot (Load r a n) s' d w x = by_register s s' d slot r w x
-brought_held s slot (Store a n r) s' d w x = by_register s s' d slot r w x
-brought_held s slot (Base r a) s' d w x = by_register s s' d slot r w x
-brought_held s slot (GlobalGet r g) s' d w x = by_register s s' d slot r w x
-brought_held s slot (GlobalPut g r) s' d w x = by_register s s' d slot r w x
+brought_held s slot call s' d w x = by_some s s' d slot (brought_register call) w x
 
 pub calls_gain : (s : Heap) (slot : ℕ) (call : Call) (reply : Reply) (s' : Heap) → HasApartObjects s' → Calls s slot call reply s' → Gains s s' (IsBrought s slot call s')
 calls_gain s slot call reply s' d (acts {m = m} at act) = record {

@@ -5,6 +5,7 @@ pub mod Links
 pub mod Calls
 pub mod Runs
 pub mod Loads
+pub mod Shapes
 pub mod Outcomes
 pub mod Births
 pub mod Gaining

@@ -19,22 +19,7 @@ use Rattle.heap_spec.proofs.Loads.{same_mutator}
 -- a refused call of a mutator leaves the heap
 acts_refused : (s : Heap) (slot : ℕ) (m : Mutator) {call : Call} {why : Refusal} {s' : Heap} → Acts s slot m call (Refused why) s' → s' ≡ s
 acts_refused s slot m (Acts.push_full e) = refl
-acts_refused s slot m (Acts.pop_empty e) = refl
-acts_refused s slot m (Acts.load_misaligned al) = refl
-acts_refused s slot m (Acts.load_nothing al none) = refl
-acts_refused s slot m (Acts.store_misaligned al) = refl
-acts_refused s slot m (Acts.store_nothing al none) = refl
-acts_refused s slot m (Acts.bad_size e) = refl
-acts_refused s slot m (Acts.full e none) = refl
-acts_refused s slot m (Acts.free_inside reads ne) = refl
-acts_refused s slot m (Acts.free_nothing none) = refl
-acts_refused s slot m (Acts.base_nothing none) = refl
-acts_refused s slot m (Acts.size_nothing none) = refl
-acts_refused s slot m (Acts.link_misaligned ne) = refl
-acts_refused s slot m (Acts.link_nowhere al none) = refl
-acts_refused s slot m (Acts.link_in_normal al reads kind) = refl
-acts_refused s slot m (Acts.link_to_nothing al reads kind none) = refl
-acts_refused s slot m (Acts.links_full al reads kind names few none) = refl
+acts_refused s slot m _ = refl
 
 pub calls_refused : (s : Heap) (slot : ℕ) (call : Call) {why : Refusal} {s' : Heap} → Calls s slot call (Refused why) s' → s' ≡ s
 calls_refused s slot call (acts {m = m} at act) = acts_refused s slot m act

@@ -1,6 +1,6 @@
 -- How the touched births grow while a cycle marks.
 use Rattle.std.proofs.Common.{◌≡◌, ◌↔◌, ◌⊎◌, ℕ, ◌<◌, true, [], ◌∷◌, length, refl, sym, ap, ◌∙◌, subst, arith, inl, inr, ⊎_elim}
-use Rattle.std.specs.Prelude.{Contains, slice_get}
+use Rattle.std.specs.Prelude.{Option, Some, None, Contains, slice_get}
 use Rattle.std.proofs.lemmas.Option.{same_Some}
 use Rattle.std.proofs.lemmas.List.Elements.{Contains-append_left, Contains-get_or}
 use Rattle.words.specs.declared.class.Kind.{Kind}
@@ -8,7 +8,7 @@ use Rattle.words.specs.declared.class.Kind.TheVariants.{Normal}
 use Rattle.words.specs.declared.class.Placement.{Placement}
 use Rattle.words.specs.declared.limits.TheConstants.{REGISTERS}
 use Rattle.heap_spec.specs.declared.call.Call.{Call}
-use Rattle.heap_spec.specs.declared.call.Call.TheVariants.{Detach, Set, Copy, Add, Sub, Get, Push, Pop, Load, Store, Alloc, Free, Base, Size, GlobalGet, GlobalPut, Link, Unlink}
+use Rattle.heap_spec.specs.declared.call.Call.TheVariants.{Store, Alloc}
 use Rattle.heap_spec.specs.declared.event.Event.TheVariants.{Attach, Mutator}
 use Rattle.heap_spec.specs.declared.reply.Reply.{Reply}
 use Rattle.heap_spec.specs.declared.reply.Reply.TheVariants.{Done}
@@ -18,7 +18,8 @@ use Rattle.heap_spec.specs.Closure.{Closure, given, root, word, IsInClosure}
 use Rattle.heap_spec.specs.Steps.{Acts, Calls, Attaches, acts, vacant, register, with_register, with_new}
 use Rattle.heap_spec.specs.Runs.{Start, Run, Touched, IsBornSince, heap_after, is_marking, goes_on}
 use Rattle.heap_spec.specs.Laws.{KeepsRules, IsNoAlloc}
-use Rattle.heap_spec.specs.Touching.{LedTo, first, next, StandsIn, HasNewborn, IsBrought, HasApartObjects, IsTouchedMore}
+use Rattle.heap_spec.specs.Shapes.{brought_register}
+use Rattle.heap_spec.specs.Touching.{LedTo, first, next, StandsIn, StandsInSome, HasNewborn, IsBrought, HasApartObjects, IsTouchedMore}
 use Rattle.heap_spec.proofs.Closures.{closure_least}
 use Rattle.heap_spec.specs.Histories.{Happens}
 use Rattle.heap_spec.specs.Ranges.{InRange}
@@ -221,26 +222,14 @@ attach_pages s (Attaches.no_slot none) = refl
 pub stands_one : (s : Heap) (slot r v w : ℕ) → StandsIn s slot r v → StandsIn s slot r w → v ≡ w
 stands_one s slot r v w x y = sym x.2 ∙ ap (λ (m : HeapMutator). register m r) (same_mutator s slot x.0 y.0 x.1 y.1) ∙ y.2
 
+one_stands : (s : Heap) (slot : ℕ) (r : Option ℕ) (v w : ℕ) → StandsInSome s slot r v → StandsInSome s slot r w → v ≡ w
+one_stands s slot None v w x y = absurd x
+one_stands s slot (Some r) v w x y = stands_one s slot r v w x y
+
 -- one word is brought
 pub brought_one : (s : Heap) (slot : ℕ) (call : Call) (s' : Heap) → IsNoAlloc call → (v w : ℕ) → IsBrought s slot call s' v → IsBrought s slot call s' w → v ≡ w
-brought_one s slot Detach s' plain v w x y = absurd x
-brought_one s slot (Get r) s' plain v w x y = absurd x
-brought_one s slot (Free r) s' plain v w x y = absurd x
-brought_one s slot (Size r) s' plain v w x y = absurd x
-brought_one s slot (Link a n r) s' plain v w x y = absurd x
-brought_one s slot (Unlink a n) s' plain v w x y = absurd x
 brought_one s slot (Alloc r n kind) s' plain v w x y = absurd plain
-brought_one s slot (Set r n) s' plain v w x y = stands_one s' slot r v w x y
-brought_one s slot (Copy r a) s' plain v w x y = stands_one s' slot r v w x y
-brought_one s slot (Add r a n) s' plain v w x y = stands_one s' slot r v w x y
-brought_one s slot (Sub r a b) s' plain v w x y = stands_one s' slot r v w x y
-brought_one s slot (Push r) s' plain v w x y = stands_one s' slot r v w x y
-brought_one s slot (Pop r) s' plain v w x y = stands_one s' slot r v w x y
-brought_one s slot (Load r a n) s' plain v w x y = stands_one s' slot r v w x y
-brought_one s slot (Store a n r) s' plain v w x y = stands_one s' slot r v w x y
-brought_one s slot (Base r a) s' plain v w x y = stands_one s' slot r v w x y
-brought_one s slot (GlobalGet r g) s' plain v w x y = stands_one s' slot r v w x y
-brought_one s slot (GlobalPut g r) s' plain v w x y = stands_one s' slot r v w x y
+brought_one s slot call s' plain v w x y = one_stands s' slot (brought_register call) v w x y
 
 -- where nothing changed nothing is new
 no_newborn : (s : Heap) → HasApartObjects s → (w : ℕ) → HasNewborn s s w → ⊥

@@ -12,6 +12,7 @@ use Rattle.heap_spec.specs.declared.reply.Reply.TheVariants.{Done, Word, Refused
 use Rattle.heap_spec.specs.Heap.{Heap, Object, Mutator, Link, IsSameObject, HasObject, PointsIntoObject, IsAttached, root_words}
 use Rattle.heap_spec.specs.Closure.{Closure, Reached, IsInClosure}
 use Rattle.heap_spec.specs.Steps.{Calls, Step, register}
+use Rattle.heap_spec.specs.Shapes.{written_register, written_global, IsOther}
 use Rattle.heap_spec.specs.Runs.{Start, Run, opening_start, heap_after, IsBornSince, Touched}
 use Rattle.heap_spec.specs.Histories.{Happens, IsRun}
 use Rattle.heap_spec.specs.Ranges.{InRange}
@@ -128,6 +129,15 @@ LoadAnswersStored = (s : Heap) → IsSound s → (slot : ℕ) (m : Mutator) → 
 -- a refused call changes nothing
 abbrev pub RefusedChangesNothing : Type 0
 RefusedChangesNothing = (s : Heap) (slot : ℕ) (call : Call) (why : Refusal) (s' : Heap) → Calls s slot call (Refused why) s' → s' ≡ s
+
+-- a call leaves each register of its mutator but the one that it writes
+abbrev pub CallsLeaveRegisters : Type 0
+CallsLeaveRegisters = (s : Heap) (slot : ℕ) (call : Call) (reply : Reply) (s' : Heap) → Calls s slot call reply s' → (m m' : Mutator) → IsAttached s slot m → IsAttached s' slot m'
+    → (d : ℕ) → IsOther d (written_register call) → register m' d ≡ register m d
+
+-- and each global
+abbrev pub CallsLeaveGlobals : Type 0
+CallsLeaveGlobals = (s : Heap) (slot : ℕ) (call : Call) (reply : Reply) (s' : Heap) → Calls s slot call reply s' → (g : ℕ) → IsOther g (written_global call) → slice_index s'.globals g ≡ slice_index s.globals g
 
 -- the call is no allocation
 abbrev pub IsNoAlloc : Call → Type 0

@@ -9,6 +9,7 @@ pub mod Cycles
 pub mod Histories
 pub mod Transcripts
 -- What contracts of other crates cite.
+pub mod Shapes
 pub mod Ranges
 pub mod Replies
 pub mod SequentialObject

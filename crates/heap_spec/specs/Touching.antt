@@ -1,12 +1,13 @@
 -- How the touched births grow while a cycle marks.
-use Rattle.std.specs.Prelude.{◌≡◌, ◌↔◌, ◌⊎◌, ℕ, ◌<◌, ◌≤◌, true, length, Contains}
+use Rattle.std.specs.Prelude.{◌≡◌, ◌↔◌, ◌⊎◌, ℕ, ◌<◌, ◌≤◌, Option, Some, None, true, length, Contains}
 use Rattle.words.specs.declared.class.Kind.TheVariants.{Normal}
 use Rattle.heap_spec.specs.declared.call.Call.{Call}
-use Rattle.heap_spec.specs.declared.call.Call.TheVariants.{Detach, Set, Copy, Add, Sub, Get, Push, Pop, Load, Store, Alloc, Free, Base, Size, GlobalGet, GlobalPut, Link, Unlink}
+use Rattle.heap_spec.specs.declared.call.Call.TheVariants.{Store, Alloc}
 use Rattle.heap_spec.specs.declared.event.Event.TheVariants.{Attach, Mutator}
 use Rattle.heap_spec.specs.declared.reply.Reply.{Reply}
 use Rattle.heap_spec.specs.Heap.{Heap, Object, Mutator as HeapMutator, HasObject, IsAttached, PointsIntoObject, PointsIntoNothing, root_words}
 use Rattle.heap_spec.specs.Steps.{Attaches, Calls, register}
+use Rattle.heap_spec.specs.Shapes.{brought_register}
 use Rattle.heap_spec.specs.Runs.{Start, Run, Touched, IsBornSince, heap_after, is_marking, goes_on}
 use Rattle.heap_spec.specs.Histories.{Happens}
 use Rattle.heap_spec.specs.Ranges.{InRange}
@@ -25,28 +26,17 @@ StandsIn s slot r w = (m : HeapMutator) × IsAttached s slot m × (register m r 
 abbrev pub HasNewborn : Heap → Heap → ℕ → Type 0
 HasNewborn old new base = (o : Object) × HasObject new base o × IsBornSince old o.birth
 
+-- and in this one, if there is one
+abbrev pub StandsInSome : Heap → ℕ → Option ℕ → ℕ → Type 0
+StandsInSome s slot None w = ⊥
+StandsInSome s slot (Some r) w = StandsIn s slot r w
+
 -- The one word that a call may have brought to a place where the collector reads it: that of the register which it writes
--- or, where it writes none, reads; and of a request the base of the new object. Arguments: the heap before, the slot, the
+-- or, where it writes none, passes on; and of a request the base of the new object. Arguments: the heap before, the slot, the
 -- call, the heap after, the word.
 abbrev pub IsBrought : Heap → ℕ → Call → Heap → ℕ → Type 0
-IsBrought s slot Detach s' w = ⊥
-IsBrought s slot (Set r n) s' w = StandsIn s' slot r w
-IsBrought s slot (Copy d a) s' w = StandsIn s' slot d w
-IsBrought s slot (Add d a n) s' w = StandsIn s' slot d w
-IsBrought s slot (Sub d a b) s' w = StandsIn s' slot d w
-IsBrought s slot (Get r) s' w = ⊥
-IsBrought s slot (Push r) s' w = StandsIn s' slot r w
-IsBrought s slot (Pop d) s' w = StandsIn s' slot d w
-IsBrought s slot (Load d a n) s' w = StandsIn s' slot d w
-IsBrought s slot (Store a n r) s' w = StandsIn s' slot r w
 IsBrought s slot (Alloc d n kind) s' w = HasNewborn s s' w
-IsBrought s slot (Free r) s' w = ⊥
-IsBrought s slot (Base d a) s' w = StandsIn s' slot d w
-IsBrought s slot (Size r) s' w = ⊥
-IsBrought s slot (GlobalGet d g) s' w = StandsIn s' slot d w
-IsBrought s slot (GlobalPut g r) s' w = StandsIn s' slot r w
-IsBrought s slot (Link a n r) s' w = ⊥
-IsBrought s slot (Unlink a n) s' w = ⊥
+IsBrought s slot call s' w = StandsInSome s' slot (brought_register call) w
 
 -- Objects have births of their own up to the count, and words of their own, and none is at the address 0. Every sound heap
 -- is so.

@@ -1,4 +1,6 @@
-//! The calls of an attached mutator.
+//! The calls of an attached mutator, and which register and which global each writes.
+ghost use Rattle.std.specs.Prelude.{◌≡◌};
+ghost use Rattle.heap_spec.specs.Shapes.{brought_register as register_brought, passed_register as register_passed, written_global as global_written, written_register as register_written};
 
 use words::{Global, Kind, Reg};
 
@@ -58,4 +60,54 @@ pub enum Call {
 
     /// Takes the link at a register and an offset in words away, if one stands there.
     Unlink(Reg, u64),
+}
+
+impl Call {
+    /// The register that the call puts a word into, unless it is refused.
+    pub fn written_register(&self) -> Option<Reg>
+        ensures { result ≡ register_written self.now }
+    {
+        match self {
+            Call::Set(into, _)
+            | Call::Copy(into, _)
+            | Call::Add(into, _, _)
+            | Call::Sub(into, _, _)
+            | Call::Pop(into)
+            | Call::Load(into, _, _)
+            | Call::Alloc(into, _, _)
+            | Call::Base(into, _)
+            | Call::GlobalGet(into, _) => Some(*into),
+            _ => None,
+        }
+    }
+
+    /// The global that the call puts a word into.
+    pub fn written_global(&self) -> Option<Global>
+        ensures { result ≡ global_written self.now }
+    {
+        let Call::GlobalPut(global, _) = self else {
+            return None;
+        };
+        Some(*global)
+    }
+
+    /// The register whose word the call puts on the stack, into an object or into a global, unless it is refused.
+    pub fn passed_register(&self) -> Option<Reg>
+        ensures { result ≡ register_passed self.now }
+    {
+        match self {
+            Call::Push(from) | Call::Store(_, _, from) | Call::GlobalPut(_, from) => Some(*from),
+            _ => None,
+        }
+    }
+
+    /// The register whose word the call brings to where the collector reads it: the one that it writes, or else passes on.
+    pub fn brought_register(&self) -> Option<Reg>
+        ensures { result ≡ register_brought self.now }
+    {
+        let Some(into) = self.written_register() else {
+            return self.passed_register();
+        };
+        Some(into)
+    }
 }

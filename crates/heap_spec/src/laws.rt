@@ -1,6 +1,6 @@
 //! The laws of the sequential heap. Each is a function that does nothing, and its contract is the law: what the
 //! definitions in `specs/` say must be right if these hold.
-ghost use Rattle.heap_spec.specs.Laws.{ClosureIsLeast, ClosureIsMonotone, ClosureIsIdempotent, RunsAreSound, HappensKeepsSound, ObjectsLieInHeap, PointsIntoAtMostOne, TouchedIsClosed, TouchedHoldsReached, FinishKeepsReached, CollectKeepsReached, StepBirths, LoadAnswersStored, RefusedChangesNothing, CallsHaveOneOutcome};
+ghost use Rattle.heap_spec.specs.Laws.{ClosureIsLeast, ClosureIsMonotone, ClosureIsIdempotent, RunsAreSound, HappensKeepsSound, ObjectsLieInHeap, PointsIntoAtMostOne, TouchedIsClosed, TouchedHoldsReached, FinishKeepsReached, CollectKeepsReached, StepBirths, LoadAnswersStored, RefusedChangesNothing, CallsLeaveRegisters, CallsLeaveGlobals, CallsHaveOneOutcome};
 ghost use Rattle.heap_spec.specs.PartialCycles.{UntouchedAreYoung};
 ghost use Rattle.heap_spec.specs.Touching.{CallTouches, AttachTouches, RootTouchesNothing, StoreTouchesNothing, SoundObjectsAreApart};
 
@@ -77,6 +77,16 @@ pub fn load_answers_stored()
 /// A refused call changes nothing.
 pub fn refused_changes_nothing()
     ensures { RefusedChangesNothing }
+{}
+
+/// A call leaves each register of its mutator but the one that it writes.
+pub fn calls_leave_registers()
+    ensures { CallsLeaveRegisters }
+{}
+
+/// A call leaves each global but the one that it writes.
+pub fn calls_leave_globals()
+    ensures { CallsLeaveGlobals }
 {}
 
 /// A call has one reply, and one heap after it but for the place of an allocation.

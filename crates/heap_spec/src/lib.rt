@@ -2,8 +2,8 @@
 //! what each call may answer and how it changes the heap. No code of the heap lives here.
 //!
 //! A reader takes `Layout`, `Heap`, `Room`, `Steps`, `Closure`, `Runs` and `Cycles` first, then `Histories` and
-//! `Transcripts`. `Ranges`, `Replies` and `SequentialObject` are what contracts of other crates cite, and `Sound` and
-//! `Laws` say what holds of it all.
+//! `Transcripts`. `Shapes`, `Ranges`, `Replies` and `SequentialObject` are what contracts of other crates cite, and
+//! `Sound` and `Laws` say what holds of it all.
 //!
 //! docs/CRATES.md tells the rest: what is proved.
 #![tactic(auto)]
