@@ -6,13 +6,14 @@ use Rattle.std.proofs.lemmas.Option.{same_Some, none-some}
 use Rattle.words.specs.declared.class.Kind.{Kind}
 use Rattle.words.specs.declared.class.Kind.TheVariants.{Normal, PointerFree}
 use Rattle.heap_spec.specs.declared.call.Call.{Call}
-use Rattle.heap_spec.specs.declared.call.Call.TheVariants.{Detach, Set, Copy, Add, Sub, Get, Push, Pop, Load, Store, Alloc, Free, Base, Size, GlobalGet, GlobalPut, Link, Unlink}
+use Rattle.heap_spec.specs.declared.call.Call.TheVariants.{Detach, Set, Store, Alloc, Free}
 use Rattle.heap_spec.specs.declared.event.Event.{Event}
-use Rattle.heap_spec.specs.declared.event.Event.TheVariants.{Attach, Mutator, Begin, BeginPartial, Roots, Mark, Retrace, Finish, Sweep, Collect, Number}
+use Rattle.heap_spec.specs.declared.event.Event.TheVariants.{Mutator}
 use Rattle.heap_spec.specs.declared.reply.Reply.{Reply}
 use Rattle.heap_spec.specs.declared.reply.Reply.TheVariants.{Slot, Done, Word, Count, Refused}
+use Rattle.heap_spec.specs.Shapes.{written_register, IsOther}
 use Rattle.heap_history.specs.Laws.{LeavesRegister, LeavesWordsCall, LeavesWords}
-use Rattle.heap_history.specs.OwnObjects.{Content, unknown, a_word, own_object, known_word, own_words, with_content, after_alloc, after_store, known_after_call, KeepsToOwnCall, KeepsToOwn}
+use Rattle.heap_history.specs.OwnObjects.{Content, unknown, a_word, own_object, known_word, own_words, with_content, with_unknown, after_alloc, after_store, known_after_call, KeepsToOwnCall, KeepsToOwn}
 
 -- the register through which a call stores
 abbrev pub stores_at : Call → Option ℕ
@@ -40,9 +41,10 @@ with_other known r d c ne = ap (λ (b : Bool). cond b c (known d)) (ne_eqb d r n
 nowhere : (d : ℕ) (a : ℕ) → None ≡ Some a → d ≢ a
 nowhere d a e = absurd (none-some a e)
 
--- a call that puts a word that isn't known into a register
-lost : (known : ℕ → Content) (call : Call) (reply : Reply) (d r : ℕ) → (d ≢ r → LeavesRegister d call) → ((a : ℕ) → stores_at call ≡ Some a → d ≢ a) → Told known call reply d (with_content known r unknown d)
-lost known call reply d r leaves misses = ⊎_elim (λ same. Told.gone (with_same known r d unknown same)) (λ other. Told.left (leaves other) misses (with_other known r d unknown other)) (cases_eq d r)
+-- a call that puts a word that isn't known into a register, if into any
+lost : (known : ℕ → Content) (call : Call) (reply : Reply) (d : ℕ) (r : Option ℕ) → (IsOther d r → LeavesRegister d call) → ((a : ℕ) → stores_at call ≡ Some a → d ≢ a) → Told known call reply d (with_unknown known r d)
+lost known call reply d None leaves misses = Told.left (leaves tt) misses refl
+lost known call reply d (Some r) leaves misses = ⊎_elim (λ same. Told.gone (with_same known r d unknown same)) (λ other. Told.left (leaves other) misses (with_other known r d unknown other)) (cases_eq d r)
 
 stored_told : (known : ℕ → Content) (reply : Reply) (d a k r : ℕ) → d ≡ a → (c : Content) → known a ≡ c → k < own_words c → Told known (Store a k r) reply d (after_store c k (known_word (known r)) reply)
 stored_told known reply d a k r same unknown is lt = Told.gone refl
@@ -67,13 +69,6 @@ told known (Set r w) reply d keeps = ⊎_elim
     (λ same. Told.was_set w (ap (λ x. Set x w) (sym same)) (with_same known r d (a_word w) same))
     (λ other. Told.left other (nowhere d) (with_other known r d (a_word w) other))
     (cases_eq d r)
-told known (Copy r a) reply d keeps = lost known (Copy r a) reply d r (λ ne. ne) (nowhere d)
-told known (Add r a n) reply d keeps = lost known (Add r a n) reply d r (λ ne. ne) (nowhere d)
-told known (Sub r a b) reply d keeps = lost known (Sub r a b) reply d r (λ ne. ne) (nowhere d)
-told known (Get r) reply d keeps = Told.left tt (nowhere d) refl
-told known (Push r) reply d keeps = Told.left tt (nowhere d) refl
-told known (Pop r) reply d keeps = lost known (Pop r) reply d r (λ ne. ne) (nowhere d)
-told known (Load r a n) reply d keeps = lost known (Load r a n) reply d r (λ ne. ne) (nowhere d)
 told known (Store a k r) reply d keeps = ⊎_elim
     (λ same. subst (λ (c : Content). Told known (Store a k r) reply d c) (sym (with_same known a d (after_store (known a) k (known_word (known r)) reply) same)) (stored_told known reply d a k r same (known a) refl keeps))
     (λ other. Told.left tt (λ b e. subst (λ x. d ≢ x) (same_Some a b e) other) (with_other known a d (after_store (known a) k (known_word (known r)) reply) other))
@@ -83,12 +78,7 @@ told known (Alloc r n kind) reply d keeps = ⊎_elim
     (λ other. Told.left other (nowhere d) (with_other known r d (after_alloc n kind reply) other))
     (cases_eq d r)
 told known (Free r) reply d keeps = absurd keeps
-told known (Base r a) reply d keeps = lost known (Base r a) reply d r (λ ne. ne) (nowhere d)
-told known (Size r) reply d keeps = Told.left tt (nowhere d) refl
-told known (GlobalGet r g) reply d keeps = lost known (GlobalGet r g) reply d r (λ ne. ne) (nowhere d)
-told known (GlobalPut g r) reply d keeps = Told.left tt (nowhere d) refl
-told known (Link a n r) reply d keeps = Told.left tt (nowhere d) refl
-told known (Unlink a n) reply d keeps = Told.left tt (nowhere d) refl
+told known call reply d keeps = lost known call reply d (written_register call) (λ ne. ne) (nowhere d)
 
 -- the event is a store
 pub record IsStore (asked : Event) : Type 0 where
@@ -100,34 +90,10 @@ pub record IsStore (asked : Event) : Type 0 where
 
 -- What keeps to own objects is a store, or leaves all words.
 call_sorted : (known : ℕ → Content) (slot : ℕ) (call : Call) → KeepsToOwnCall known call → LeavesWordsCall call ⊎ IsStore (Mutator slot call)
-call_sorted known slot Detach keeps = inl tt
-call_sorted known slot (Set r w) keeps = inl tt
-call_sorted known slot (Copy r a) keeps = inl tt
-call_sorted known slot (Add r a n) keeps = inl tt
-call_sorted known slot (Sub r a b) keeps = inl tt
-call_sorted known slot (Get r) keeps = inl tt
-call_sorted known slot (Push r) keeps = inl tt
-call_sorted known slot (Pop r) keeps = inl tt
-call_sorted known slot (Load r a n) keeps = inl tt
 call_sorted known slot (Store a k r) keeps = inr (record { slot = slot; at = a; offset = k; from = r; is = refl })
-call_sorted known slot (Alloc r n kind) keeps = inl tt
 call_sorted known slot (Free r) keeps = absurd keeps
-call_sorted known slot (Base r a) keeps = inl tt
-call_sorted known slot (Size r) keeps = inl tt
-call_sorted known slot (GlobalGet r g) keeps = inl tt
-call_sorted known slot (GlobalPut g r) keeps = inl tt
-call_sorted known slot (Link a n r) keeps = inl tt
-call_sorted known slot (Unlink a n) keeps = inl tt
+call_sorted known slot _ keeps = inl tt
 
 pub sorted : (known : ℕ → Content) (asked : Event) → KeepsToOwn known asked → LeavesWords asked ⊎ IsStore asked
-sorted known Attach keeps = inl tt
 sorted known (Mutator slot call) keeps = call_sorted known slot call keeps
-sorted known Begin keeps = inl tt
-sorted known BeginPartial keeps = inl tt
-sorted known Roots keeps = inl tt
-sorted known (Mark n) keeps = inl tt
-sorted known Retrace keeps = inl tt
-sorted known Finish keeps = inl tt
-sorted known Sweep keeps = inl tt
-sorted known Collect keeps = inl tt
-sorted known Number keeps = inl tt
+sorted known _ keeps = inl tt

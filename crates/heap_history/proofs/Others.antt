@@ -6,9 +6,9 @@ use Rattle.std.proofs.lemmas.List.Elements.{All-nil, All-cons, All-head, All-tai
 use mathlib.Core.List.{IsPrefix}
 use Rattle.history.specs.Histories.{event, own, AreOfOthers, Walks, Legal}
 use Rattle.heap_spec.specs.declared.call.Call.{Call}
-use Rattle.heap_spec.specs.declared.call.Call.TheVariants.{Detach, Set, Copy, Add, Sub, Get, Push, Pop, Load, Store, Alloc, Free, Base, Size, GlobalGet, GlobalPut, Link, Unlink}
+use Rattle.heap_spec.specs.declared.call.Call.TheVariants.{Free}
 use Rattle.heap_spec.specs.declared.event.Event.{Event}
-use Rattle.heap_spec.specs.declared.event.Event.TheVariants.{Attach, Mutator, Begin, BeginPartial, Roots, Mark, Retrace, Finish, Sweep, Collect, Number}
+use Rattle.heap_spec.specs.declared.event.Event.TheVariants.{Mutator}
 use Rattle.heap_spec.specs.declared.reply.Reply.{Reply}
 use Rattle.heap_spec.specs.SequentialObject.{HeapState, Opens, StateStep}
 use Rattle.heap_history.specs.Ranks.{rank_of}
@@ -42,54 +42,20 @@ all_rest P (x ∷ xs) ys all = all_rest P xs ys (All-tail P x (xs ++ ys) all)
 
 -- the collector stores and frees nothing
 step_leaves : (s u : HeapState) (who : ℕ) (asked : Event) (reply : Reply) → StateStep s who asked reply u → who ≡ 16 → LeavesWords asked
-step_leaves s u who Attach reply h is = tt
 step_leaves s u who (Mutator slot call) reply h is = let lt = h.fits.range in absurd (omega (arith, lt, is))
-step_leaves s u who Begin reply h is = tt
-step_leaves s u who BeginPartial reply h is = tt
-step_leaves s u who Finish reply h is = tt
-step_leaves s u who Collect reply h is = tt
-step_leaves s u who Roots reply h is = tt
-step_leaves s u who (Mark n) reply h is = tt
-step_leaves s u who Retrace reply h is = tt
-step_leaves s u who Sweep reply h is = tt
-step_leaves s u who Number reply h is = tt
+step_leaves s u who _ reply h is = tt
 
 walks_leaves : (s t : HeapState) (es : List MadeEvent) → Walks StateStep s es t → All (λ (e : MadeEvent). e.who ≡ 16 → LeavesWords e.call) es
 walks_leaves s t [] w = All-nil (λ (e : MadeEvent). e.who ≡ 16 → LeavesWords e.call)
 walks_leaves s t (e ∷ es) w = All-cons (λ (x : MadeEvent). x.who ≡ 16 → LeavesWords x.call) e es (step_leaves s w.0 e.who e.call e.reply w.1) (walks_leaves w.0 t es w.2)
 
 call_frees : (call : Call) → LeavesWordsCall call → IsNoFreeCall call
-call_frees Detach l = tt
-call_frees (Set r w) l = tt
-call_frees (Copy r a) l = tt
-call_frees (Add r a n) l = tt
-call_frees (Sub r a b) l = tt
-call_frees (Get r) l = tt
-call_frees (Push r) l = tt
-call_frees (Pop r) l = tt
-call_frees (Load r a n) l = tt
-call_frees (Store a n r) l = tt
-call_frees (Alloc r n kind) l = tt
 call_frees (Free r) l = l
-call_frees (Base r a) l = tt
-call_frees (Size r) l = tt
-call_frees (GlobalGet r g) l = tt
-call_frees (GlobalPut g r) l = tt
-call_frees (Link a n r) l = tt
-call_frees (Unlink a n) l = tt
+call_frees _ l = tt
 
 event_frees : (asked : Event) → LeavesWords asked → IsNoFree asked
-event_frees Attach l = tt
 event_frees (Mutator slot call) l = call_frees call l
-event_frees Begin l = tt
-event_frees BeginPartial l = tt
-event_frees Finish l = tt
-event_frees Collect l = tt
-event_frees Roots l = tt
-event_frees (Mark n) l = tt
-event_frees Retrace l = tt
-event_frees Sweep l = tt
-event_frees Number l = tt
+event_frees _ l = tt
 
 -- Where others store and free nothing, a call is made undisturbed.
 undisturbed_by : (pages : ℕ) (history : List MadeEvent) (me : ℕ) → All (λ (e : MadeEvent). e.who ≢ me → LeavesWords e.call) history

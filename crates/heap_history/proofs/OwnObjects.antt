@@ -6,7 +6,7 @@ use Rattle.std.proofs.lemmas.Option.{same_Some, none-some}
 use Rattle.std.proofs.lemmas.List.{length-set, get_or-set_other}
 use Rattle.words.specs.declared.class.Kind.TheVariants.{Normal}
 use Rattle.heap_spec.specs.declared.call.Call.{Call}
-use Rattle.heap_spec.specs.declared.call.Call.TheVariants.{Detach, Set, Copy, Add, Sub, Get, Push, Pop, Load, Store, Alloc, Free, Base, Size, GlobalGet, GlobalPut, Link, Unlink}
+use Rattle.heap_spec.specs.declared.call.Call.TheVariants.{Get, Load, Store}
 use Rattle.heap_spec.specs.declared.reply.Reply.{Reply}
 use Rattle.heap_spec.specs.declared.reply.Reply.TheVariants.{Done, Word}
 use Rattle.heap_spec.specs.Layout.{index_in}
@@ -175,19 +175,4 @@ pub call_as_known : (s : Heap) → IsSound s → (slot : ℕ) (m : HeapMutator) 
     → Calls s slot call reply s' → IsAsKnownCall known call reply
 call_as_known s h slot m known at fact (Get r) calls = get_as_known s slot m r (known r) (fact r) (calls_acts s slot m at calls)
 call_as_known s h slot m known at fact (Load d a k) calls = λ lt. load_as_known s h slot m a k at (known a) (fact a) lt calls
-call_as_known s h slot m known at fact Detach calls = tt
-call_as_known s h slot m known at fact (Set r w) calls = tt
-call_as_known s h slot m known at fact (Copy r a) calls = tt
-call_as_known s h slot m known at fact (Add r a n) calls = tt
-call_as_known s h slot m known at fact (Sub r a b) calls = tt
-call_as_known s h slot m known at fact (Push r) calls = tt
-call_as_known s h slot m known at fact (Pop r) calls = tt
-call_as_known s h slot m known at fact (Store a k r) calls = tt
-call_as_known s h slot m known at fact (Alloc r n kind) calls = tt
-call_as_known s h slot m known at fact (Free r) calls = tt
-call_as_known s h slot m known at fact (Base r a) calls = tt
-call_as_known s h slot m known at fact (Size r) calls = tt
-call_as_known s h slot m known at fact (GlobalGet r g) calls = tt
-call_as_known s h slot m known at fact (GlobalPut g r) calls = tt
-call_as_known s h slot m known at fact (Link a n r) calls = tt
-call_as_known s h slot m known at fact (Unlink a n) calls = tt
+call_as_known s h slot m known at fact _ calls = tt

@@ -6,7 +6,7 @@ use Rattle.std.proofs.lemmas.List.{length-set, length-replicate, get_or-replicat
 use Rattle.words.specs.declared.class.Kind.{Kind}
 use Rattle.history.specs.Histories.{event, AreOfOthers, Walks, Reaches}
 use Rattle.heap_spec.specs.declared.call.Call.{Call}
-use Rattle.heap_spec.specs.declared.call.Call.TheVariants.{Detach, Set, Copy, Add, Sub, Get, Push, Pop, Load, Store, Alloc, Free, Base, Size, GlobalGet, GlobalPut, Link, Unlink}
+use Rattle.heap_spec.specs.declared.call.Call.TheVariants.{Get, Alloc, Free, Base}
 use Rattle.heap_spec.specs.declared.event.Event.TheVariants.{Mutator}
 use Rattle.heap_spec.specs.declared.reply.Reply.{Reply}
 use Rattle.heap_spec.specs.declared.reply.Reply.TheVariants.{Done, Word}
@@ -99,24 +99,8 @@ get_owned s slot d n a b {kind = kind} calls own =
 
 -- and any call that leaves the register leaves it owned
 leaves_no_free : (d : ℕ) (call : Call) → LeavesRegister d call → IsNoFreeCall call
-leaves_no_free d Detach none = tt
-leaves_no_free d (Set r w) ne = tt
-leaves_no_free d (Copy r a) ne = tt
-leaves_no_free d (Add r a n) ne = tt
-leaves_no_free d (Sub r a b) ne = tt
-leaves_no_free d (Get r) ne = tt
-leaves_no_free d (Push r) ne = tt
-leaves_no_free d (Pop r) ne = tt
-leaves_no_free d (Load r a n) ne = tt
-leaves_no_free d (Store a n r) ne = tt
-leaves_no_free d (Alloc r n kind) ne = tt
 leaves_no_free d (Free r) none = none
-leaves_no_free d (Base r a) ne = tt
-leaves_no_free d (Size r) ne = tt
-leaves_no_free d (GlobalGet r g) ne = tt
-leaves_no_free d (GlobalPut g r) ne = tt
-leaves_no_free d (Link a n r) ne = tt
-leaves_no_free d (Unlink a n) ne = tt
+leaves_no_free d _ leaves = tt
 
 call_owned : (s : Heap) (slot d n a : ℕ) {kind : Kind} → IsSound s → {call : Call} {reply : Reply} {s' : Heap} → Calls s slot call reply s' → LeavesRegister d call → Owned s slot d n a kind → Owned s' slot d n a kind
 call_owned s slot d n a {kind = kind} h {call = call} calls leaves own =

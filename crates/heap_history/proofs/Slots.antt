@@ -6,12 +6,14 @@ use Rattle.std.proofs.lemmas.List.{length-set, get_or-set_same}
 use Rattle.std.proofs.lemmas.Bool.{cases_order, true≢false}
 use Rattle.history.specs.Histories.{is_last}
 use Rattle.heap_spec.specs.declared.call.Call.{Call}
+use Rattle.heap_spec.specs.declared.call.Call.TheVariants.{Detach}
 use Rattle.heap_spec.specs.declared.event.Event.{Event}
 use Rattle.heap_spec.specs.declared.event.Event.TheVariants.{Attach, Mutator, Begin, BeginPartial, Roots, Mark, Retrace, Finish, Sweep, Collect, Number}
 use Rattle.heap_spec.specs.declared.reply.Reply.{Reply}
 use Rattle.heap_spec.specs.declared.reply.Reply.TheVariants.{Slot}
 use Rattle.heap_spec.specs.Heap.{Heap, Mutator as HeapMutator, IsAttached, IsVacant}
-use Rattle.heap_spec.specs.Steps.{Acts, Attaches, attached, no_slot, Calls, acts, vacant, IsLowestVacant, with_mutator, newcomer}
+use Rattle.heap_spec.specs.Steps.{Attaches, attached, no_slot, Calls, acts, vacant, IsLowestVacant, with_mutator, newcomer}
+use Rattle.heap_spec.proofs.Shapes.{IsNoDetach, LeavesSlot, acts_slot}
 use Rattle.heap_history.specs.Ranks.{rank_of, rank_of_call}
 use Rattle.heap_spec.specs.SequentialObject.{HeapState, heap_of, StateStep}
 
@@ -51,49 +53,24 @@ puts s s' slot x lt e = record {
   else = λ who ne. ap (λ l. slice_get l who) e ∙ slice_get-set_other s.mutators slot who x ne;
 }
 
-acts_leave : (s : Heap) (slot : ℕ) (m : HeapMutator) → IsAttached s slot m → slot < length s.mutators → {call : Call} {reply : Reply} {s' : Heap} → Acts s slot m call reply s' → Leaves s s' slot (not (is_last (rank_of_call call)))
-acts_leave s slot m at lt Acts.detached = puts s _ slot None lt refl
-acts_leave s slot m at lt Acts.set = puts s _ slot (Some _) lt refl
-acts_leave s slot m at lt Acts.copied = puts s _ slot (Some _) lt refl
-acts_leave s slot m at lt Acts.added = puts s _ slot (Some _) lt refl
-acts_leave s slot m at lt Acts.subtracted = puts s _ slot (Some _) lt refl
-acts_leave s slot m at lt Acts.got = keeps s s slot m at refl
-acts_leave s slot m at lt (Acts.pushed few) = puts s _ slot (Some _) lt refl
-acts_leave s slot m at lt (Acts.push_full e) = keeps s s slot m at refl
-acts_leave s slot m at lt (Acts.popped rest e) = puts s _ slot (Some _) lt refl
-acts_leave s slot m at lt (Acts.pop_empty e) = keeps s s slot m at refl
-acts_leave s slot m at lt (Acts.loaded al reads) = puts s _ slot (Some _) lt refl
-acts_leave s slot m at lt (Acts.load_misaligned al) = keeps s s slot m at refl
-acts_leave s slot m at lt (Acts.load_nothing al none) = keeps s s slot m at refl
-acts_leave s slot m at lt (Acts.stored al reads) = keeps s _ slot m at refl
-acts_leave s slot m at lt (Acts.store_misaligned al) = keeps s s slot m at refl
-acts_leave s slot m at lt (Acts.store_nothing al none) = keeps s s slot m at refl
-acts_leave s slot m at lt (Acts.allocated a e room) = puts s _ slot (Some _) lt refl
-acts_leave s slot m at lt (Acts.bad_size e) = keeps s s slot m at refl
-acts_leave s slot m at lt (Acts.full e none) = keeps s s slot m at refl
-acts_leave s slot m at lt (Acts.freed has) = keeps s _ slot m at refl
-acts_leave s slot m at lt (Acts.free_inside reads ne) = keeps s s slot m at refl
-acts_leave s slot m at lt (Acts.free_nothing none) = keeps s s slot m at refl
-acts_leave s slot m at lt (Acts.based reads) = puts s _ slot (Some _) lt refl
-acts_leave s slot m at lt (Acts.base_nothing none) = keeps s s slot m at refl
-acts_leave s slot m at lt (Acts.sized reads) = keeps s s slot m at refl
-acts_leave s slot m at lt (Acts.size_nothing none) = keeps s s slot m at refl
-acts_leave s slot m at lt Acts.global_got = puts s _ slot (Some _) lt refl
-acts_leave s slot m at lt Acts.global_put = keeps s _ slot m at refl
-acts_leave s slot m at lt (Acts.link_misaligned al) = keeps s s slot m at refl
-acts_leave s slot m at lt (Acts.link_nowhere al none) = keeps s s slot m at refl
-acts_leave s slot m at lt (Acts.link_in_normal al reads kind) = keeps s s slot m at refl
-acts_leave s slot m at lt (Acts.link_to_nothing al reads kind none) = keeps s s slot m at refl
-acts_leave s slot m at lt (Acts.links_full al reads kind names few none) = keeps s s slot m at refl
-acts_leave s slot m at lt (Acts.linked al reads kind names room) = keeps s _ slot m at refl
-acts_leave s slot m at lt Acts.unlinked = keeps s _ slot m at refl
+-- a call that isn't the last leaves the slot its mutator
+is_not_last : (call : Call) → IsNoDetach call → not (is_last (rank_of_call call)) ≡ true
+is_not_last Detach none = absurd none
+is_not_last _ stays = refl
+
+slot_leaves : (s s' : Heap) (slot : ℕ) (m : HeapMutator) (call : Call) → IsAttached s slot m → LeavesSlot s slot m call s' → Leaves s s' slot (not (is_last (rank_of_call call)))
+slot_leaves s s' slot m call at (LeavesSlot.gone is goes) =
+    subst (λ k. Leaves s s' slot (not (is_last (rank_of_call k)))) (sym is) (puts s s' slot None (slice_get_within s.mutators slot (Some m) at) goes)
+slot_leaves s s' slot m call at (LeavesSlot.same stays goes) = subst (Leaves s s' slot) (sym (is_not_last call stays)) (keeps s s' slot m at goes)
+slot_leaves s s' slot m call at (LeavesSlot.other k stays goes writes) =
+    subst (Leaves s s' slot) (sym (is_not_last call stays)) (puts s s' slot (Some k) (slice_get_within s.mutators slot (Some m) at) goes)
 
 -- a slot is vacant or has a mutator
 pub not_both : (s : Heap) (slot : ℕ) (m : HeapMutator) → IsAttached s slot m → IsVacant s slot → ⊥
 not_both s slot m at none = none-some m (same_Some None (Some m) (sym none ∙ at))
 
 pub calls_leave : (s : Heap) (slot : ℕ) (m : HeapMutator) (call : Call) → IsAttached s slot m → {reply : Reply} {s' : Heap} → Calls s slot call reply s' → Leaves s s' slot (not (is_last (rank_of_call call)))
-calls_leave s slot m call at (acts {m = k} at' act) = acts_leave s slot k at' (slice_get_within s.mutators slot (Some k) at') act
+calls_leave s slot m call at {s' = s'} (acts {m = k} at' act) = slot_leaves s s' slot k call at' (acts_slot s slot k act)
 calls_leave s slot m call at (vacant none) = absurd (not_both s slot m at none)
 
 -- the lowest vacant slot is one

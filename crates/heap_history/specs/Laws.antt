@@ -4,11 +4,12 @@ use mathlib.Core.List.{IsPrefix}
 use Rattle.std.specs.List.{IsDistinct}
 use Rattle.history.specs.Histories.{count, Legal}
 use Rattle.heap_spec.specs.declared.call.Call.{Call}
-use Rattle.heap_spec.specs.declared.call.Call.TheVariants.{Detach, Set, Copy, Add, Sub, Get, Push, Pop, Load, Store, Alloc, Free, Base, Size, GlobalGet, GlobalPut, Link, Unlink}
+use Rattle.heap_spec.specs.declared.call.Call.TheVariants.{Detach, Set, Get, Load, Store, Alloc, Free, Base}
 use Rattle.heap_spec.specs.declared.event.Event.{Event}
 use Rattle.heap_spec.specs.declared.event.Event.TheVariants.{Attach, Mutator, Begin, BeginPartial, Roots, Mark, Retrace, Finish, Sweep, Collect, Number}
 use Rattle.heap_spec.specs.declared.reply.Reply.{Reply}
 use Rattle.heap_spec.specs.declared.reply.Reply.TheVariants.{Done, Word}
+use Rattle.heap_spec.specs.Shapes.{written_register, IsOther}
 use Rattle.heap_spec.specs.Runs.{Told}
 use Rattle.heap_spec.specs.Histories.{LegalHistory}
 use Rattle.heap_spec.specs.SequentialObject.{Opens, StateStep}
@@ -111,23 +112,8 @@ pub record MakesAfterNoFree (pages : ℕ) (old : HeapPass) (call : Call) (reply 
 -- a call that leaves the register as it is and frees no object
 abbrev pub LeavesRegister : ℕ → Call → Type 0
 LeavesRegister d Detach = ⊥
-LeavesRegister d (Set r w) = d ≢ r
-LeavesRegister d (Copy r a) = d ≢ r
-LeavesRegister d (Add r a n) = d ≢ r
-LeavesRegister d (Sub r a b) = d ≢ r
-LeavesRegister d (Get r) = Unit {0}
-LeavesRegister d (Push r) = Unit {0}
-LeavesRegister d (Pop r) = d ≢ r
-LeavesRegister d (Load r a n) = d ≢ r
-LeavesRegister d (Store a n r) = Unit {0}
-LeavesRegister d (Alloc r n kind) = d ≢ r
 LeavesRegister d (Free r) = ⊥
-LeavesRegister d (Base r a) = d ≢ r
-LeavesRegister d (Size r) = Unit {0}
-LeavesRegister d (GlobalGet r g) = d ≢ r
-LeavesRegister d (GlobalPut g r) = Unit {0}
-LeavesRegister d (Link a n r) = Unit {0}
-LeavesRegister d (Unlink a n) = Unit {0}
+LeavesRegister d call = IsOther d (written_register call)
 
 -- Any number of a mutator's calls that leave its register, while nobody frees.
 pub data CallsLeaveRegister (pages d : ℕ) (old : HeapPass) : HeapPass → Type 0 where

@@ -3,11 +3,12 @@ use Rattle.std.specs.Prelude.{◌≡◌, ℕ, ◌<◌, ◌==◌, Option, Some, N
 use Rattle.words.specs.declared.class.Kind.{Kind}
 use Rattle.words.specs.declared.class.Kind.TheVariants.{Normal}
 use Rattle.heap_spec.specs.declared.call.Call.{Call}
-use Rattle.heap_spec.specs.declared.call.Call.TheVariants.{Detach, Set, Copy, Add, Sub, Get, Push, Pop, Load, Store, Alloc, Free, Base, Size, GlobalGet, GlobalPut, Link, Unlink}
+use Rattle.heap_spec.specs.declared.call.Call.TheVariants.{Detach, Set, Get, Load, Store, Alloc, Free}
 use Rattle.heap_spec.specs.declared.event.Event.{Event}
 use Rattle.heap_spec.specs.declared.event.Event.TheVariants.{Attach, Mutator, Begin, BeginPartial, Roots, Mark, Retrace, Finish, Sweep, Collect, Number}
 use Rattle.heap_spec.specs.declared.reply.Reply.{Reply}
 use Rattle.heap_spec.specs.declared.reply.Reply.TheVariants.{Done, Word}
+use Rattle.heap_spec.specs.Shapes.{written_register}
 use Rattle.heap_history.specs.Passes.{MadeEvent}
 
 -- What is known of a register: nothing, its word, or that it has the base of a Normal object of the mutator's own, of at least so many
@@ -53,26 +54,19 @@ abbrev pub after_store : Content → ℕ → Option ℕ → Reply → Content
 after_store (own_object n words) k w Done = own_object n (λ i. if i == k then w else words i)
 after_store _ k w _ = unknown
 
--- what is known after a call with its reply
+-- where nothing is known of this register, if there is one
+abbrev pub with_unknown : (ℕ → Content) → Option ℕ → ℕ → Content
+with_unknown known None = known
+with_unknown known (Some r) = with_content known r unknown
+
+-- what is known after a call with its reply: of the register that it writes mostly nothing
 abbrev pub known_after_call : (ℕ → Content) → Call → Reply → ℕ → Content
 known_after_call known Detach reply = nothing_known
 known_after_call known (Set r w) reply = with_content known r (a_word w)
-known_after_call known (Copy r a) reply = with_content known r unknown
-known_after_call known (Add r a n) reply = with_content known r unknown
-known_after_call known (Sub r a b) reply = with_content known r unknown
-known_after_call known (Get r) reply = known
-known_after_call known (Push r) reply = known
-known_after_call known (Pop r) reply = with_content known r unknown
-known_after_call known (Load r a n) reply = with_content known r unknown
 known_after_call known (Store a k r) reply = with_content known a (after_store (known a) k (known_word (known r)) reply)
 known_after_call known (Alloc r n kind) reply = with_content known r (after_alloc n kind reply)
 known_after_call known (Free r) reply = nothing_known
-known_after_call known (Base r a) reply = with_content known r unknown
-known_after_call known (Size r) reply = known
-known_after_call known (GlobalGet r g) reply = with_content known r unknown
-known_after_call known (GlobalPut g r) reply = known
-known_after_call known (Link a n r) reply = known
-known_after_call known (Unlink a n) reply = known
+known_after_call known call reply = with_unknown known (written_register call)
 
 -- and after an event
 abbrev pub known_after : (ℕ → Content) → Event → Reply → ℕ → Content
