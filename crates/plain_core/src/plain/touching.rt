@@ -23,25 +23,10 @@ fn moved(call: &Call) -> Option<Reg>
     ensures some { IfSome result (λ r. (slot : ℕ) (s s' : Heap) (w : ℕ) → IsBrought s slot call.now s' w ↔ StandsIn s' slot r w) }
     ensures none { IfNone result (IsNoAlloc call.now → (slot : ℕ) (s s' : Heap) (w : ℕ) → IsBrought s slot call.now s' w → ⊥) }
 {
-    match *call {
-        Call::Detach => None,
-        Call::Set(into, _) => Some(into),
-        Call::Copy(into, _) => Some(into),
-        Call::Add(into, _, _) => Some(into),
-        Call::Sub(into, _, _) => Some(into),
-        Call::Get(_) => None,
-        Call::Push(from) => Some(from),
-        Call::Pop(into) => Some(into),
-        Call::Load(into, _, _) => Some(into),
-        Call::Store(_, _, from) => Some(from),
+    match call {
+        // What a request brings is its new object.
         Call::Alloc(_, _, _) => None,
-        Call::Free(_) => None,
-        Call::Base(into, _) => Some(into),
-        Call::Size(_) => None,
-        Call::GlobalGet(into, _) => Some(into),
-        Call::GlobalPut(_, from) => Some(from),
-        Call::Link(_, _, _) => None,
-        Call::Unlink(_, _) => None,
+        _ => call.brought_register(),
     }
 }
 
