@@ -9,7 +9,7 @@ use mathlib.Core.Path.{fun_ext}
 use Rattle.words.specs.declared.class.Kind.{Kind}
 use Rattle.words.specs.declared.class.Placement.{Placement}
 use Rattle.heap_spec.specs.declared.call.Call.{Call}
-use Rattle.heap_spec.specs.declared.call.Call.TheVariants.{Detach, Set, Copy, Add, Sub, Get, Push, Pop, Load, Store, Alloc, Free, Base, Size, GlobalGet, GlobalPut, Link, Unlink}
+use Rattle.heap_spec.specs.declared.call.Call.TheVariants.{Alloc}
 use Rattle.heap_spec.specs.declared.event.Event.{Event}
 use Rattle.heap_spec.specs.declared.event.Event.TheVariants.{Attach, Mutator, Begin, BeginPartial, Roots, Mark, Retrace, Finish, Sweep, Collect, Number}
 use Rattle.heap_spec.specs.declared.reply.Reply.{Reply}
@@ -80,23 +80,7 @@ module _ (s : Heap) (h : HasApartObjects s) (slot d n : ℕ) (kind : Kind) where
 call_next : (s : Heap) → HasApartObjects s → (slot : ℕ) (call : Call) (reply : Reply) (t t' : Heap) → Calls s slot call reply t → Calls s slot call reply t'
     → ((into words : ℕ) (kind : Kind) → call ≡ Alloc into words kind → reply ≡ Done → BothBorn s t t') → t ≡ t'
 call_next s h slot (Alloc d n kind) reply t t' one other born = request_next s h slot d n kind t' one other (λ done. born d n kind refl done)
-call_next s h slot Detach reply t t' one other born = (calls_same s (legible s h) slot Detach reply reply t t' one other).1 tt
-call_next s h slot (Set r w) reply t t' one other born = (calls_same s (legible s h) slot (Set r w) reply reply t t' one other).1 tt
-call_next s h slot (Copy d a) reply t t' one other born = (calls_same s (legible s h) slot (Copy d a) reply reply t t' one other).1 tt
-call_next s h slot (Add d a n) reply t t' one other born = (calls_same s (legible s h) slot (Add d a n) reply reply t t' one other).1 tt
-call_next s h slot (Sub d a b) reply t t' one other born = (calls_same s (legible s h) slot (Sub d a b) reply reply t t' one other).1 tt
-call_next s h slot (Get r) reply t t' one other born = (calls_same s (legible s h) slot (Get r) reply reply t t' one other).1 tt
-call_next s h slot (Push r) reply t t' one other born = (calls_same s (legible s h) slot (Push r) reply reply t t' one other).1 tt
-call_next s h slot (Pop r) reply t t' one other born = (calls_same s (legible s h) slot (Pop r) reply reply t t' one other).1 tt
-call_next s h slot (Load d a n) reply t t' one other born = (calls_same s (legible s h) slot (Load d a n) reply reply t t' one other).1 tt
-call_next s h slot (Store a n r) reply t t' one other born = (calls_same s (legible s h) slot (Store a n r) reply reply t t' one other).1 tt
-call_next s h slot (Free r) reply t t' one other born = (calls_same s (legible s h) slot (Free r) reply reply t t' one other).1 tt
-call_next s h slot (Base d a) reply t t' one other born = (calls_same s (legible s h) slot (Base d a) reply reply t t' one other).1 tt
-call_next s h slot (Size r) reply t t' one other born = (calls_same s (legible s h) slot (Size r) reply reply t t' one other).1 tt
-call_next s h slot (GlobalGet d g) reply t t' one other born = (calls_same s (legible s h) slot (GlobalGet d g) reply reply t t' one other).1 tt
-call_next s h slot (GlobalPut g r) reply t t' one other born = (calls_same s (legible s h) slot (GlobalPut g r) reply reply t t' one other).1 tt
-call_next s h slot (Link a n r) reply t t' one other born = (calls_same s (legible s h) slot (Link a n r) reply reply t t' one other).1 tt
-call_next s h slot (Unlink a n) reply t t' one other born = (calls_same s (legible s h) slot (Unlink a n) reply reply t t' one other).1 tt
+call_next s h slot call reply t t' one other born = (calls_same s (legible s h) slot call reply reply t t' one other).1 tt
 
 attach_next : (s : Heap) {reply : Reply} {t t' : Heap} → Attaches s reply t → Attaches s reply t' → t ≡ t'
 attach_next s (Attaches.attached low) (Attaches.attached low') = refl

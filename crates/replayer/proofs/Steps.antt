@@ -35,41 +35,8 @@ use Rattle.replayer.proofs.Aging.{old_tell, new_tell, partial_tell}
 
 -- a call of a mutator leaves the count of births, but for a granted request
 acts_births : (s : Heap) (slot : ℕ) (m : HeapMutator) {call : Call} {reply : Reply} {s' : Heap} → Acts s slot m call reply s' → (IsGrant call reply → ⊥) → s'.births ≡ s.births
-acts_births s slot m Acts.detached none = refl
-acts_births s slot m Acts.set none = refl
-acts_births s slot m Acts.copied none = refl
-acts_births s slot m Acts.added none = refl
-acts_births s slot m Acts.subtracted none = refl
-acts_births s slot m Acts.got none = refl
-acts_births s slot m (Acts.push_full e) none = refl
-acts_births s slot m (Acts.pushed lt) none = refl
-acts_births s slot m (Acts.pop_empty e) none = refl
-acts_births s slot m (Acts.popped rest e) none = refl
-acts_births s slot m (Acts.load_misaligned al) none = refl
-acts_births s slot m (Acts.load_nothing al e) none = refl
-acts_births s slot m (Acts.loaded al r) none = refl
-acts_births s slot m (Acts.store_misaligned al) none = refl
-acts_births s slot m (Acts.store_nothing al e) none = refl
-acts_births s slot m (Acts.stored al r) none = refl
-acts_births s slot m (Acts.bad_size e) none = refl
-acts_births s slot m (Acts.full e never) none = refl
 acts_births s slot m (Acts.allocated {d = d} {n = n} {kind = kind} a e room) none = absurd (none (d, n, kind, refl, refl))
-acts_births s slot m (Acts.free_nothing e) none = refl
-acts_births s slot m (Acts.free_inside r ne) none = refl
-acts_births s slot m (Acts.freed has) none = refl
-acts_births s slot m (Acts.base_nothing e) none = refl
-acts_births s slot m (Acts.based r) none = refl
-acts_births s slot m (Acts.size_nothing e) none = refl
-acts_births s slot m (Acts.sized r) none = refl
-acts_births s slot m Acts.global_got none = refl
-acts_births s slot m Acts.global_put none = refl
-acts_births s slot m (Acts.link_misaligned al) none = refl
-acts_births s slot m (Acts.link_nowhere al e) none = refl
-acts_births s slot m (Acts.link_in_normal al r k) none = refl
-acts_births s slot m (Acts.link_to_nothing al r k e) none = refl
-acts_births s slot m (Acts.links_full al r k p few e) none = refl
-acts_births s slot m (Acts.linked al r k p room) none = refl
-acts_births s slot m Acts.unlinked none = refl
+acts_births s slot m _ none = refl
 
 pub calls_births : (s : Heap) (slot : ℕ) (call : Call) (reply : Reply) (s' : Heap) → Calls s slot call reply s' → (IsGrant call reply → ⊥) → s'.births ≡ s.births
 calls_births s slot call reply s' (acts {m = m} at act) none = acts_births s slot m act none
