@@ -1,36 +1,14 @@
 -- Which words of the roots a line changed.
 use Rattle.std.specs.Prelude.{◌==◌, ℕ, Option, Some, None, List, if◌then◌else◌, slice_get, slice_index}
-use Rattle.heap_spec.specs.declared.call.Call.{Call}
-use Rattle.heap_spec.specs.declared.call.Call.TheVariants.{Detach, Set, Copy, Add, Sub, Get, Push, Pop, Load, Store, Alloc, Free, Base, Size, GlobalGet, GlobalPut, Link, Unlink}
 use Rattle.heap_spec.specs.declared.event.Event.{Event}
 use Rattle.heap_spec.specs.declared.event.Event.TheVariants.{Attach, Mutator, Begin, BeginPartial, Roots, Mark, Retrace, Finish, Sweep, Collect, Number}
 use Rattle.heap_spec.specs.Heap.{Mutator as HeapMutator}
+use Rattle.heap_spec.specs.Shapes.{written_global, written_register}
 use Rattle.heap_spec.specs.Steps.{register}
 use Rattle.roots.specs.Roots.{RootSet}
 use Rattle.trace_lines.specs.declared.record.Numbered.{Numbered}
 use Rattle.trace_lines.specs.declared.record.RegisterWord.{RegisterWord}
 use Rattle.tracing.specs.declared.roots_changed.PutWords.{PutWords}
-
--- the register that a call puts a word into
-abbrev pub into_of : Call → Option ℕ
-into_of Detach = None
-into_of (Set into word) = Some into
-into_of (Copy into from) = Some into
-into_of (Add into from n) = Some into
-into_of (Sub into from less) = Some into
-into_of (Get r) = None
-into_of (Push from) = None
-into_of (Pop into) = Some into
-into_of (Load into at offset) = Some into
-into_of (Store at offset from) = None
-into_of (Alloc into words kind) = Some into
-into_of (Free r) = None
-into_of (Base into from) = Some into
-into_of (Size r) = None
-into_of (GlobalGet into global) = Some into
-into_of (GlobalPut global from) = None
-into_of (Link at offset to) = None
-into_of (Unlink at offset) = None
 
 -- the mutator that stands at a slot, if one does
 abbrev pub there : Option (Option HeapMutator) → Option HeapMutator
@@ -49,7 +27,7 @@ register_in slot (Some r) (Some m) = Some (record { slot = slot; register = r; w
 
 -- the register that an event may change, with its word
 abbrev pub register_of : RootSet → Event → Option RegisterWord
-register_of roots (Mutator slot call) = register_in slot (into_of call) (there_at roots slot)
+register_of roots (Mutator slot call) = register_in slot (written_register call) (there_at roots slot)
 register_of roots Attach = None
 register_of roots Begin = None
 register_of roots BeginPartial = None
@@ -61,27 +39,6 @@ register_of roots Sweep = None
 register_of roots Collect = None
 register_of roots Number = None
 
--- the global that a call puts a word into
-abbrev pub put_of : Call → Option ℕ
-put_of Detach = None
-put_of (Set into word) = None
-put_of (Copy into from) = None
-put_of (Add into from n) = None
-put_of (Sub into from less) = None
-put_of (Get r) = None
-put_of (Push from) = None
-put_of (Pop into) = None
-put_of (Load into at offset) = None
-put_of (Store at offset from) = None
-put_of (Alloc into words kind) = None
-put_of (Free r) = None
-put_of (Base into from) = None
-put_of (Size r) = None
-put_of (GlobalGet into global) = None
-put_of (GlobalPut global from) = Some global
-put_of (Link at offset to) = None
-put_of (Unlink at offset) = None
-
 -- a global with its word, if there is one
 abbrev pub global_in : List ℕ → Option ℕ → Option Numbered
 global_in globals None = None
@@ -89,7 +46,7 @@ global_in globals (Some global) = Some (record { number = global; word = slice_i
 
 -- the global that an event may change
 abbrev pub event_put : Event → Option ℕ
-event_put (Mutator slot call) = put_of call
+event_put (Mutator slot call) = written_global call
 event_put Attach = None
 event_put Begin = None
 event_put BeginPartial = None

@@ -2,9 +2,9 @@
 ghost use Rattle.std.specs.Prelude.{◌≡◌};
 ghost use Rattle.std.specs.Option.{option_map};
 ghost use Rattle.heap_spec.specs.Steps.{register};
-ghost use Rattle.tracing.specs.RootWords.{words_put as words_put_of, changed_global, changed_register, event_put, global_of as global_put_of, into_of as into_register, register_of as register_put_of, there_at};
+ghost use Rattle.tracing.specs.RootWords.{words_put as words_put_of, changed_global, changed_register, event_put, global_of as global_put_of, register_of as register_put_of, there_at};
 
-use heap_spec::{Call, Event};
+use heap_spec::Event;
 use plain_core::Core;
 use trace_lines::{Numbered, RegisterWord};
 use words::{Global, Reg, Slot};
@@ -14,32 +14,6 @@ use words::{Global, Reg, Slot};
 pub(crate) struct PutWords {
     pub(crate) register: Option<RegisterWord>,
     pub(crate) global: Option<Numbered>,
-}
-
-// The register that a call puts a word into.
-fn into_of(call: &Call) -> Option<Reg>
-    ensures { result ≡ into_register call.now }
-{
-    match call {
-        Call::Set(into, _)
-        | Call::Copy(into, _)
-        | Call::Add(into, _, _)
-        | Call::Sub(into, _, _)
-        | Call::Pop(into)
-        | Call::Load(into, _, _)
-        | Call::Alloc(into, _, _)
-        | Call::Base(into, _)
-        | Call::GlobalGet(into, _) => Some(*into),
-        Call::Detach
-        | Call::Get(_)
-        | Call::Push(_)
-        | Call::Store(_, _, _)
-        | Call::Free(_)
-        | Call::Size(_)
-        | Call::GlobalPut(_, _)
-        | Call::Link(_, _, _)
-        | Call::Unlink(_, _) => None,
-    }
 }
 
 // The word of a register, if its slot has a mutator.
@@ -59,7 +33,7 @@ fn register_of(core: &Core, event: &Event) -> Option<RegisterWord>
     let Event::Mutator(slot, call) = event else {
         return None;
     };
-    let Some(reg) = into_of(call) else {
+    let Some(reg) = call.written_register() else {
         return None;
     };
     let Some(word) = word_of(core, *slot, reg) else {
@@ -79,10 +53,7 @@ fn global_put(event: &Event) -> Option<Global>
     let Event::Mutator(_, call) = event else {
         return None;
     };
-    let Call::GlobalPut(global, _) = call else {
-        return None;
-    };
-    Some(*global)
+    call.written_global()
 }
 
 // The global that an event may change, with its word.
