@@ -16,6 +16,7 @@ use Rattle.heap_spec.specs.Ranges.{CallInRange, IsRegister}
 use Rattle.heap_spec.specs.Sound.{IsSound}
 use Rattle.heap_spec.specs.Steps.{register}
 use Rattle.heap_history.specs.Laws.{LeavesRegister, LeavesWordsCall}
+use Rattle.heap_history.specs.OfCalls.{IfCall}
 use Rattle.heap_core.specs.Acts.{IsAct}
 use Rattle.heap_core.specs.MutatorCalls.{IsCall}
 use Rattle.heap_core.specs.CoreContents.{CoreContents}
@@ -46,17 +47,7 @@ pub record IsHeld (c : CoreContents) (slot r k w : ℕ) : Type 0 where
 
 -- the registers and words that an event names are ones
 abbrev pub NamesInRange : Event → Type 0
-NamesInRange Attach = Unit {0}
-NamesInRange (Mutator slot call) = CallInRange call
-NamesInRange Begin = Unit {0}
-NamesInRange BeginPartial = Unit {0}
-NamesInRange Roots = Unit {0}
-NamesInRange (Mark n) = Unit {0}
-NamesInRange Retrace = Unit {0}
-NamesInRange Finish = Unit {0}
-NamesInRange Sweep = Unit {0}
-NamesInRange Collect = Unit {0}
-NamesInRange Number = Unit {0}
+NamesInRange event = IfCall CallInRange event
 
 -- The event leaves the words of objects and this register of the slot: it is the collector's, an attach, or a call of any slot that
 -- stores and frees nothing and is no change of the register.

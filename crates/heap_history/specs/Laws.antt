@@ -16,6 +16,7 @@ use Rattle.heap_spec.specs.SequentialObject.{Opens, StateStep}
 use Rattle.words.specs.declared.limits.TheConstants.{SLOTS, WORD_BYTES}
 use Rattle.words.specs.declared.class.Kind.{Kind}
 use Rattle.words.specs.declared.class.Kind.TheVariants.{Normal}
+use Rattle.heap_history.specs.OfCalls.{IfCall}
 use Rattle.heap_history.specs.Ranks.{rank_of}
 use Rattle.heap_history.specs.Passes.{MadeEvent, HeapPass, IsLegalPass, begins_with_attach}
 use Rattle.heap_history.specs.Headline.{Looks, Makes}
@@ -38,17 +39,7 @@ IsNoFreeCall _ = Unit {0}
 
 -- and an event that does not: a cycle may be one
 abbrev pub IsNoFree : Event → Type 0
-IsNoFree Attach = Unit {0}
-IsNoFree (Mutator slot call) = IsNoFreeCall call
-IsNoFree Begin = Unit {0}
-IsNoFree BeginPartial = Unit {0}
-IsNoFree Roots = Unit {0}
-IsNoFree (Mark n) = Unit {0}
-IsNoFree Retrace = Unit {0}
-IsNoFree Finish = Unit {0}
-IsNoFree Sweep = Unit {0}
-IsNoFree Collect = Unit {0}
-IsNoFree Number = Unit {0}
+IsNoFree event = IfCall IsNoFreeCall event
 
 -- a call that stores nothing and frees nothing
 abbrev pub LeavesWordsCall : Call → Type 0
@@ -58,17 +49,7 @@ LeavesWordsCall _ = Unit {0}
 
 -- and an event that does neither: a cycle may be one
 abbrev pub LeavesWords : Event → Type 0
-LeavesWords Attach = Unit {0}
-LeavesWords (Mutator slot call) = LeavesWordsCall call
-LeavesWords Begin = Unit {0}
-LeavesWords BeginPartial = Unit {0}
-LeavesWords Roots = Unit {0}
-LeavesWords (Mark n) = Unit {0}
-LeavesWords Retrace = Unit {0}
-LeavesWords Finish = Unit {0}
-LeavesWords Sweep = Unit {0}
-LeavesWords Collect = Unit {0}
-LeavesWords Number = Unit {0}
+LeavesWords event = IfCall LeavesWordsCall event
 
 -- an event that is no collection
 abbrev pub IsNoCollection : Event → Type 0

@@ -1,3 +1,4 @@
+pub mod OfCalls
 pub mod Ranks
 pub mod Passes
 pub mod Alone

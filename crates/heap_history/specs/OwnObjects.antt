@@ -9,6 +9,7 @@ use Rattle.heap_spec.specs.declared.event.Event.TheVariants.{Attach, Mutator, Be
 use Rattle.heap_spec.specs.declared.reply.Reply.{Reply}
 use Rattle.heap_spec.specs.declared.reply.Reply.TheVariants.{Done, Word}
 use Rattle.heap_spec.specs.Shapes.{written_register}
+use Rattle.heap_history.specs.OfCalls.{IfCall}
 use Rattle.heap_history.specs.Passes.{MadeEvent}
 
 -- What is known of a register: nothing, its word, or that it has the base of a Normal object of the mutator's own, of at least so many
@@ -54,12 +55,12 @@ abbrev pub after_store : Content → ℕ → Option ℕ → Reply → Content
 after_store (own_object n words) k w Done = own_object n (λ i. if i == k then w else words i)
 after_store _ k w _ = unknown
 
--- where nothing is known of this register, if there is one
+-- with nothing known of this register, if there is one
 abbrev pub with_unknown : (ℕ → Content) → Option ℕ → ℕ → Content
 with_unknown known None = known
 with_unknown known (Some r) = with_content known r unknown
 
--- what is known after a call with its reply: of the register that it writes mostly nothing
+-- What is known after a call with its reply: of a register that it writes nothing, but of one that it sets to a word or to a new object.
 abbrev pub known_after_call : (ℕ → Content) → Call → Reply → ℕ → Content
 known_after_call known Detach reply = nothing_known
 known_after_call known (Set r w) reply = with_content known r (a_word w)
@@ -89,17 +90,7 @@ KeepsToOwnCall known (Free r) = ⊥
 KeepsToOwnCall known _ = Unit {0}
 
 abbrev pub KeepsToOwn : (ℕ → Content) → Event → Type 0
-KeepsToOwn known (Mutator slot call) = KeepsToOwnCall known call
-KeepsToOwn known Attach = Unit {0}
-KeepsToOwn known Begin = Unit {0}
-KeepsToOwn known BeginPartial = Unit {0}
-KeepsToOwn known Roots = Unit {0}
-KeepsToOwn known (Mark n) = Unit {0}
-KeepsToOwn known Retrace = Unit {0}
-KeepsToOwn known Finish = Unit {0}
-KeepsToOwn known Sweep = Unit {0}
-KeepsToOwn known Collect = Unit {0}
-KeepsToOwn known Number = Unit {0}
+KeepsToOwn known event = IfCall (KeepsToOwnCall known) event
 
 -- and so does each of these events, one after the other
 abbrev pub AllKeepToOwn : (ℕ → Content) → List MadeEvent → Type 0
@@ -113,17 +104,7 @@ IsAsKnownCall known (Load r a k) reply = k < own_words (known a) → IfSome (kno
 IsAsKnownCall known _ reply = Unit {0}
 
 abbrev pub IsAsKnown : (ℕ → Content) → Event → Reply → Type 0
-IsAsKnown known (Mutator slot call) reply = IsAsKnownCall known call reply
-IsAsKnown known Attach reply = Unit {0}
-IsAsKnown known Begin reply = Unit {0}
-IsAsKnown known BeginPartial reply = Unit {0}
-IsAsKnown known Roots reply = Unit {0}
-IsAsKnown known (Mark n) reply = Unit {0}
-IsAsKnown known Retrace reply = Unit {0}
-IsAsKnown known Finish reply = Unit {0}
-IsAsKnown known Sweep reply = Unit {0}
-IsAsKnown known Collect reply = Unit {0}
-IsAsKnown known Number reply = Unit {0}
+IsAsKnown known event reply = IfCall (λ call. IsAsKnownCall known call reply) event
 
 -- and so is each reply of these events
 abbrev pub AreAsKnown : (ℕ → Content) → List MadeEvent → Type 0
