@@ -1,3 +1,4 @@
+pub mod OfCalls
 pub mod Slots
 pub mod Chains
 pub mod Telling

@@ -1,5 +1,5 @@
 -- What is known of the others where all that had a part in a history are known.
-use Rattle.std.proofs.Common.{◌≡◌, ◌≢◌, ℕ, ◌<◌, ◌==◌, Bool, true, false, cond, List, [], ◌∷◌, ◌++◌, length, refl, sym, ap, ◌∙◌, subst, arith, eq-eqb, ne_eqb, true≢false, append_assoc, ⊎_elim}
+use Rattle.std.proofs.Common.{◌≡◌, ◌≢◌, ℕ, ◌<◌, ◌==◌, Bool, true, false, cond, List, [], ◌∷◌, ◌++◌, length, refl, sym, ap, ◌∙◌, subst, eq-eqb, ne_eqb, true≢false, append_assoc, ⊎_elim}
 use Rattle.std.specs.Prelude.{All, Contains, filter, slice_index_or}
 use Rattle.std.proofs.lemmas.Bool.{cases_Bool, cases_eq}
 use Rattle.std.proofs.lemmas.List.Elements.{All-nil, All-cons, All-head, All-tail, All-map, All-weaker, All-append, All-contains}
@@ -7,7 +7,6 @@ use mathlib.Core.List.{IsPrefix}
 use Rattle.history.specs.Histories.{event, own, AreOfOthers, Walks, Legal}
 use Rattle.heap_spec.specs.declared.call.Call.{Call}
 use Rattle.heap_spec.specs.declared.call.Call.TheVariants.{Free}
-use Rattle.heap_spec.specs.declared.event.Event.{Event}
 use Rattle.heap_spec.specs.declared.event.Event.TheVariants.{Mutator}
 use Rattle.heap_spec.specs.declared.reply.Reply.{Reply}
 use Rattle.heap_spec.specs.SequentialObject.{HeapState, Opens, StateStep}
@@ -17,8 +16,9 @@ use Rattle.heap_history.specs.Headline.{Looks, Makes}
 use Rattle.heap_history.specs.Alone.{all_of, slots_of, AreAlone}
 use Rattle.heap_history.specs.InTurn.{did_in, AreAloneInTurn}
 use Rattle.heap_history.proofs.Coming.{walks_who}
+use Rattle.heap_history.proofs.OfCalls.{if_weaker, if_collector}
 use Rattle.heap_history.proofs.Gone.{known_mine}
-use Rattle.heap_history.specs.Laws.{IsNoFreeCall, IsNoFree, LeavesWordsCall, LeavesWords, LeftWords, MakesAfterNoWrite, MakesAfterNoFree}
+use Rattle.heap_history.specs.Laws.{IsNoFreeCall, LeavesWordsCall, LeavesWords, LeftWords, MakesAfterNoWrite, MakesAfterNoFree}
 
 -- what holds of all that a test keeps holds where it is passed
 unfilter : (P : MadeEvent → Type 0) (p : MadeEvent → Bool) (es : List MadeEvent) → All P (filter p es) → All (λ e. p e ≡ true → P e) es
@@ -41,21 +41,13 @@ all_rest P [] ys all = all
 all_rest P (x ∷ xs) ys all = all_rest P xs ys (All-tail P x (xs ++ ys) all)
 
 -- the collector stores and frees nothing
-step_leaves : (s u : HeapState) (who : ℕ) (asked : Event) (reply : Reply) → StateStep s who asked reply u → who ≡ 16 → LeavesWords asked
-step_leaves s u who (Mutator slot call) reply h is = let lt = h.fits.range in absurd (omega (arith, lt, is))
-step_leaves s u who _ reply h is = tt
-
 walks_leaves : (s t : HeapState) (es : List MadeEvent) → Walks StateStep s es t → All (λ (e : MadeEvent). e.who ≡ 16 → LeavesWords e.call) es
 walks_leaves s t [] w = All-nil (λ (e : MadeEvent). e.who ≡ 16 → LeavesWords e.call)
-walks_leaves s t (e ∷ es) w = All-cons (λ (x : MadeEvent). x.who ≡ 16 → LeavesWords x.call) e es (step_leaves s w.0 e.who e.call e.reply w.1) (walks_leaves w.0 t es w.2)
+walks_leaves s t (e ∷ es) w = All-cons (λ (x : MadeEvent). x.who ≡ 16 → LeavesWords x.call) e es (if_collector LeavesWordsCall s w.0 e.who e.call e.reply w.1) (walks_leaves w.0 t es w.2)
 
 call_frees : (call : Call) → LeavesWordsCall call → IsNoFreeCall call
 call_frees (Free r) l = l
 call_frees _ l = tt
-
-event_frees : (asked : Event) → LeavesWords asked → IsNoFree asked
-event_frees (Mutator slot call) l = call_frees call l
-event_frees _ l = tt
 
 -- Where others store and free nothing, a call is made undisturbed.
 undisturbed_by : (pages : ℕ) (history : List MadeEvent) (me : ℕ) → All (λ (e : MadeEvent). e.who ≢ me → LeavesWords e.call) history
@@ -67,7 +59,7 @@ undisturbed_by pages history me left old new call reply is within makes =
     let part : All (λ (x : MadeEvent). x.who ≢ me → LeavesWords x.call) ext.between =
     all_first (λ (x : MadeEvent). x.who ≢ me → LeavesWords x.call) ext.between (e ∷ within.0) (all_rest (λ (x : MadeEvent). x.who ≢ me → LeavesWords x.call) old.seen (ext.between ++ (e ∷ within.0)) (subst (λ (l : List MadeEvent). All (λ (x : MadeEvent). x.who ≢ me → LeavesWords x.call) l) parts left)) in
     let words : All (λ (x : MadeEvent). LeavesWords x.call) ext.between = λ k d lt. part k d lt (subst (λ (n : ℕ). (slice_index_or ext.between k d).who ≢ n) is (ext.others k d lt)) in
-    (record { makes = makes; left = words }, record { makes = makes; kept = λ k d lt. event_frees (slice_index_or ext.between k d).call (words k d lt) })
+    (record { makes = makes; left = words }, record { makes = makes; kept = λ k d lt. if_weaker LeavesWordsCall IsNoFreeCall call_frees (slice_index_or ext.between k d).call (words k d lt) })
 
 module _ (pages : ℕ) (history : List MadeEvent) (legal : Legal (Opens pages) StateStep history) (me : ℕ) (others : List HeapPass) (alone : AreAlone (me ∷ slots_of others) history)
     (left : All (LeftWords pages history) others) where

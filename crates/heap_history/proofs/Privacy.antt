@@ -21,6 +21,7 @@ use Rattle.heap_spec.proofs.Runs.{fresh_sound}
 use Rattle.heap_history.specs.Passes.{MadeEvent}
 use Rattle.heap_history.specs.Alone.{all_of}
 use Rattle.heap_history.specs.OwnObjects.{Content, unknown, own_object, known_word, own_words, known_after, KeepsToOwnCall, KeepsToOwn, AllKeepToOwn, IsAsKnown, AreAsKnown}
+use Rattle.heap_history.proofs.OfCalls.{if_collector}
 use Rattle.heap_history.proofs.Slots.{step_mutators}
 use Rattle.heap_history.proofs.Coming.{step_who}
 use Rattle.heap_history.proofs.Stored.{step_fresh, set_leaves}
@@ -231,33 +232,10 @@ module _ (s t : HeapState) (who : ℕ) (reply : Reply) (sound : IsSound (heap_of
 
   -- and its reply is as it is known.
   step_as_known : (asked : Event) → StateStep s who asked reply t → who < 16 → IsAsKnown (known who) asked reply
-  step_as_known Attach h lt = tt
   step_as_known (Mutator slot call) h lt =
       let there : IsAttached (heap_of s) slot h.fits.mutator = ap (λ (i : ℕ). slice_get (heap_of s).mutators i) (sym h.fits.own) ∙ h.fits.attached in
       call_as_known (heap_of s) sound slot h.fits.mutator (known who) there (λ d. p.as_known who d h.fits.mutator h.fits.range h.fits.attached) call h.happens
-  step_as_known Begin h lt = tt
-  step_as_known BeginPartial h lt = tt
-  step_as_known Finish h lt = tt
-  step_as_known Collect h lt = tt
-  step_as_known Roots h lt = tt
-  step_as_known (Mark n) h lt = tt
-  step_as_known Retrace h lt = tt
-  step_as_known Sweep h lt = tt
-  step_as_known Number h lt = tt
-
--- the collector's events keep to own objects
-collector_keeps : (s u : HeapState) (who : ℕ) (known : ℕ → Content) (asked : Event) (reply : Reply) → StateStep s who asked reply u → who ≡ 16 → KeepsToOwn known asked
-collector_keeps s u who known Attach reply h is = tt
-collector_keeps s u who known (Mutator slot call) reply h is = let lt = h.fits.range in absurd (omega (arith, lt, is))
-collector_keeps s u who known Begin reply h is = tt
-collector_keeps s u who known BeginPartial reply h is = tt
-collector_keeps s u who known Finish reply h is = tt
-collector_keeps s u who known Collect reply h is = tt
-collector_keeps s u who known Roots reply h is = tt
-collector_keeps s u who known (Mark n) reply h is = tt
-collector_keeps s u who known Retrace reply h is = tt
-collector_keeps s u who known Sweep reply h is = tt
-collector_keeps s u who known Number reply h is = tt
+  step_as_known _ h lt = tt
 
 -- what is left of a slot's events after one event of the history
 rest_keeps : (b : Bool) (known : ℕ → Content) (e : MadeEvent) (es : List MadeEvent) → AllKeepToOwn known (cond b (e ∷ es) es) → AllKeepToOwn (cond b (known_after known e.call e.reply) known) es
@@ -276,7 +254,7 @@ walks_as_known s t (e ∷ es) w fresh known p keeps x lt =
     let sound = fresh_sound s.pages s.run fresh in
     let here : KeepsToOwn (known e.who) e.call = ⊎_elim
     (λ (slot : e.who < 16). (subst (λ (b : Bool). AllKeepToOwn (known e.who) (cond b (e ∷ all_of e.who es) (all_of e.who es))) (eq-eqb e.who e.who refl) (keeps e.who slot)).0)
-    (λ collector. collector_keeps s w.0 e.who (known e.who) e.call e.reply w.1 collector)
+    (λ collector. if_collector (KeepsToOwnCall (known e.who)) s w.0 e.who e.call e.reply w.1 collector)
     (step_who s w.0 e.who e.call e.reply w.1) in
     let next = known_by e.who e.call e.reply known in
     let rest = walks_as_known w.0 t es w.2 (step_fresh s w.0 e.who e.call e.reply w.1 fresh) next (step_private s w.0 e.who e.reply sound known p e.call w.1 here)

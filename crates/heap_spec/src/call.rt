@@ -64,6 +64,7 @@ pub enum Call {
 
 impl Call {
     /// The register that the call puts a word into, unless it is refused.
+    #[inline]
     pub fn written_register(&self) -> Option<Reg>
         ensures { result ≡ register_written self.now }
     {
@@ -82,6 +83,7 @@ impl Call {
     }
 
     /// The global that the call puts a word into.
+    #[inline]
     pub fn written_global(&self) -> Option<Global>
         ensures { result ≡ global_written self.now }
     {
@@ -91,8 +93,9 @@ impl Call {
         Some(*global)
     }
 
-    /// The register whose word the call puts on the stack, into an object or into a global, unless it is refused.
-    pub fn passed_register(&self) -> Option<Reg>
+    // The register whose word the call puts on the stack, into an object or into a global, unless it is refused.
+    #[inline]
+    fn passed_register(&self) -> Option<Reg>
         ensures { result ≡ register_passed self.now }
     {
         match self {
@@ -102,6 +105,7 @@ impl Call {
     }
 
     /// The register whose word the call brings to where the collector reads it: the one that it writes, or else passes on.
+    #[inline]
     pub fn brought_register(&self) -> Option<Reg>
         ensures { result ≡ register_brought self.now }
     {
