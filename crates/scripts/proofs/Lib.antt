@@ -5,6 +5,7 @@ pub mod Splitting
 pub mod FirstWords
 pub mod Turns
 pub mod Texts
+pub mod CommandWords
 pub mod Inputs
 pub mod Cores
 pub mod Serving
