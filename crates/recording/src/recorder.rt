@@ -95,22 +95,7 @@ impl Recorder {
         match call {
             Call::Alloc(into, _, _) => self.note_place(slot, *into),
             Call::Free(_) => self.sort_out(),
-            Call::Detach
-            | Call::Set(_, _)
-            | Call::Copy(_, _)
-            | Call::Add(_, _, _)
-            | Call::Sub(_, _, _)
-            | Call::Get(_)
-            | Call::Push(_)
-            | Call::Pop(_)
-            | Call::Load(_, _, _)
-            | Call::Store(_, _, _)
-            | Call::Base(_, _)
-            | Call::Size(_)
-            | Call::GlobalGet(_, _)
-            | Call::GlobalPut(_, _)
-            | Call::Link(_, _, _)
-            | Call::Unlink(_, _) => Ok(()),
+            _ => Ok(()),
         }
     }
 
