@@ -2,7 +2,7 @@
 use Rattle.std.proofs.Common.{◌≡◌, ◌≢◌, ℕ, ◌+◌, ◌<◌, ◌≤◌, Bool, true, false, List, [], ◌∷◌, ◌++◌, length, get_or, take, refl, sym, ap, ◌∙◌, subst, arith, ⊎_elim}
 use Rattle.std.specs.Prelude.{Some, Contains, slice_get, slice_set}
 use Rattle.std.proofs.lemmas.Bool.{true≢false, cases_lt}
-use Rattle.std.proofs.lemmas.Option.{same_Some}
+use Rattle.std.proofs.lemmas.Option.{same_Some, slice_get_within, get_or_from_slice_get}
 use Rattle.std.proofs.lemmas.List.{append-nil, length-set, get_or-set_same, get_or-set_other, get_or_past, take_more}
 use Rattle.std.proofs.lemmas.List.Elements.{Contains-append_left, Contains-append_right, Contains-append_cases}
 use Rattle.heap_spec.specs.Layout.{PointsInto}
@@ -63,6 +63,12 @@ module _ (c : PlainContents) (sound : IsLaidOut c) (base : ℕ) (old new : List 
 pub flagged_none : (origin : ℕ) (flags : List Bool) → AreFlaggedBases origin [] flags []
 flagged_none origin flags = record { all = λ e has is. absurd (nothing_in e has); only = λ b has. absurd (nothing_in b has) }
 
+pub flagged_is : (origin : ℕ) (flags : List Bool) (e : Extent) → IsFlagged origin flags e.base → AreFlaggedBases origin (e ∷ []) flags (e.base ∷ [])
+flagged_is origin flags e is = record {
+  all = λ f has set. subst (λ (x : Extent). Contains (e.base ∷ []) x.base) (the_one e f has) (0, omega arith, refl);
+  only = λ b has. (e, (0, omega arith, refl), the_one e.base b has, is);
+}
+
 pub flagged_not : (origin : ℕ) (flags : List Bool) (e : Extent) → (IsFlagged origin flags e.base → ⊥) → AreFlaggedBases origin (e ∷ []) flags []
 flagged_not origin flags e not = record {
   all = λ f has set. absurd (not (subst (λ (x : Extent). IsFlagged origin flags x.base) (sym (the_one e f has)) set));
@@ -91,13 +97,14 @@ module _ (origin : ℕ) (row : List Extent) (flags : List Bool) where
   lists_flagged_none l ready = record { bases = []; are = flagged_none origin flags; lists = lists_none row l ready }
 
   -- the objects one after another
-  pub lists_flagged_take : (some : List Extent) (a b l : Listing) (i : ℕ) (d : Extent) → i < length some → ListsFlagged origin row (take i some) flags a b → ListsFlagged origin row (get_or some i d ∷ []) flags b l
-      → ListsFlagged origin row (take (i + 1) some) flags a l
-  lists_flagged_take some a b l i d lt x y = subst (λ ws. ListsFlagged origin row ws flags a l) (sym (take_more some i d lt)) (record {
-    bases = x.bases ++ y.bases;
-    are = flagged_more origin flags (take i some) (get_or some i d ∷ []) x.bases y.bases x.are y.are;
-    lists = lists_more row x.bases y.bases a b l x.lists y.lists;
-  })
+  pub lists_flagged_next : (a b l : Listing) (i : ℕ) (e : Extent) → slice_get row i ≡ Some e → ListsFlagged origin row (take i row) flags a b → ListsFlagged origin row (e ∷ []) flags b l → ListsFlagged origin row (take (i + 1) row) flags a l
+  lists_flagged_next a b l i e at x y =
+      let more : take (i + 1) row ≡ take i row ++ e ∷ [] = take_more row i e (slice_get_within row i e at) ∙ ap (λ f. take i row ++ f ∷ []) (get_or_from_slice_get row i e e at) in
+      subst (λ some. ListsFlagged origin row some flags a l) (sym more) (record {
+        bases = x.bases ++ y.bases;
+        are = flagged_more origin flags (take i row) (e ∷ []) x.bases y.bases x.are y.are;
+        lists = lists_more row x.bases y.bases a b l x.lists y.lists;
+      })
 
 -- what roots and objects with flags lead to, told by where it stands in the row
 module _ (c : PlainContents) (sound : IsLaidOut c) (s : Heap) (h : StandsFor c s) (aged : List Bool) (last : ℕ) (tell : TellOld c.origin s aged last) (bases : List ℕ) (are : AreFlaggedBases c.origin c.objects aged bases) where

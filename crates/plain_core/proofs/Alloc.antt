@@ -1,6 +1,6 @@
 -- An allocation, and that the core stays sound.
-use Rattle.std.proofs.Common.{◌≡◌, ℕ, ◌+◌, ◌*◌, ◌/◌, ◌%◌, ◌<◌, ◌≤◌, ◌⊎◌, List, [], ◌∷◌, ◌++◌, length, get_or, drop, replicate, refl, sym, ap, ◌∙◌, subst, arith, inl, inr, ⊎_elim, cond}
-use Rattle.std.specs.Prelude.{Result, Ok, Err, IsOk, is_ok, ◌≢◌, Some, None, All, Contains, slice_get}
+use Rattle.std.proofs.Common.{◌≡◌, ℕ, ◌+◌, ◌*◌, ◌/◌, ◌%◌, ◌<◌, ◌≤◌, ◌⊎◌, List, [], ◌∷◌, ◌++◌, length, get_or, drop, replicate, refl, sym, ap, ◌∙◌, subst, arith, inl, inr, ⊎_elim}
+use Rattle.std.specs.Prelude.{◌≢◌, Some, None, All, Contains, slice_get}
 use Rattle.std.proofs.Math.Nat.{mul_assoc, mul-mod_right}
 use Rattle.std.proofs.lemmas.List.{ext_get_or, get_or-take, get_or-drop, get_or-replicate, length-replicate, length_push}
 use Rattle.std.proofs.lemmas.List.Elements.{All-nil, All-contains, All-push, Contains-push_cases, Contains-push, Contains-append_left}
@@ -27,7 +27,7 @@ use Rattle.plain_core.specs.PlainContents.{PlainContents, IsLaidOut, IsInHeap, I
 use Rattle.plain_core.specs.Answering.{MayBePut, IsPut, IsBornAt, IsAllocatedAt, CantAllocateAt, heap_with}
 use Rattle.plain_core.specs.Anywhere.{with_words}
 use Rattle.plain_core.specs.Places.{IsPlace, IsSized, IsFresh}
-use Rattle.plain_core.specs.Standing.{StandsFor, IsShown, words_at}
+use Rattle.plain_core.specs.Standing.{StandsFor, IsShown, words_at, LiesIn}
 use Rattle.plain_core.proofs.Stands.{StepsCall, mutator_at, set_is}
 use Rattle.plain_core.proofs.Memory.{length_words}
 use Rattle.plain_core.proofs.Objects.{in_heap, object_of, extent_of}
@@ -186,17 +186,16 @@ has_room c e sound new fresh =
     let m : length c.objects + 1 ≤ PAGE_WORDS * c.pages = rw length_push at l in
     omega arith
 
--- what a push that succeeds leaves
-pub pushed_items : {A T E : Type 0} (r : Result T E) (xs ys zs : List A) → IsOk r → zs ≡ cond (is_ok r) xs ys → zs ≡ xs
-pushed_items (Ok v) xs ys zs ok is = is
-pushed_items (Err e) xs ys zs ok is = absurd (cc)
-
 module _ (c : PlainContents) (e : Extent) (sound : IsLaidOut c) (fits : MayBePut c e) where
   pub room_left : length c.objects < PAGE_WORDS * c.pages
   room_left = has_room c e sound fits.in_heap fits.fresh
 
   pub fits_row : word_index c.origin e.base + e.length ≤ length c.words
   fits_row = let i = fits.in_heap in let w = sound.words in omega (arith, i.start, i.aligned, i.ends)
+
+  pub lies_new : (owners : List ℕ) → length c.words ≡ length owners → LiesIn c.origin owners e
+  lies_new owners size =
+      let i = fits.in_heap in record { start = i.start; aligned = let whole = i.aligned in let first = sound.starts in omega arith; some = i.some; ends = let w = sound.words in omega (arith, i.start, i.aligned, i.ends) }
 
   pub puts : (roots : RootSet) (k d : ℕ) (row : List ℕ) (objects : List Extent) → IsZeroed c.origin c.words row e → objects ≡ c.objects ++ e ∷ [] → SetsWord c.roots k d e.base roots
       → IsPut c k d e (record c { words = row; objects = objects; roots = roots })

@@ -5,13 +5,12 @@ use Rattle.std.proofs.lemmas.List.Elements.{All-contains, Contains-get_or}
 use Rattle.words.specs.declared.limits.TheConstants.{WORD_BYTES}
 use Rattle.heap_spec.specs.Layout.{PointsInto}
 use Rattle.plain_core.specs.declared.extent.Extent.{Extent}
-use Rattle.plain_core.specs.Owners.{AreFound}
 use Rattle.plain_core.specs.Places.{IsFresh}
 
-module _ (origin : ℕ) (row : List Extent) (owners : List ℕ) (found : AreFound origin row owners) (e : Extent) (even : e.base % WORD_BYTES ≡ 0) where
+module _ (row : List Extent) (evens : All (λ e. e.base % WORD_BYTES ≡ 0) row) (e : Extent) (even : e.base % WORD_BYTES ≡ 0) where
   pub fresh_by : ((i : ℕ) → i < e.length → All (λ f. PointsInto (e.base + WORD_BYTES * i) f.base f.length → ⊥) row) → IsFresh row e
   fresh_by bare f w has re rf =
-      let straight = All-contains (λ (g : Extent). g.base % WORD_BYTES ≡ 0) row f found.aligned has in
+      let straight = All-contains (λ (g : Extent). g.base % WORD_BYTES ≡ 0) row f evens has in
       let i : ℕ = (w - e.base) / WORD_BYTES in
       All-contains (λ (g : Extent). PointsInto (e.base + WORD_BYTES * i) g.base g.length → ⊥) row f (bare i (omega (arith, re.0, re.1))) has
       (omega (arith, re.0, re.1, rf.0, rf.1), omega (arith, re.0, re.1, rf.0, rf.1))

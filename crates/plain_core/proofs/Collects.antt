@@ -26,10 +26,10 @@ use Rattle.plain_core.specs.PlainContents.{PlainContents, IsLaidOut, IsInHeap, f
 use Rattle.plain_core.specs.Collections.{IsCollected, HasGarbage}
 use Rattle.plain_core.specs.Standing.{StandsFor, LiesIn, words_at}
 use Rattle.plain_core.specs.Reached.{PointsIntoNth, AreApart, IsReachedNth, by_root, by_link, MarksReached, read_words}
+use Rattle.plain_core.specs.declared.directory.Directory.{Directory}
 use Rattle.plain_core.specs.declared.listing.Listing.{Listing}
 use Rattle.plain_core.specs.Listing.{HasListRoom, KeepsRoom}
 use Rattle.plain_core.specs.Parting.{Parts}
-use Rattle.plain_core.proofs.Freshness.{few_objects}
 use Rattle.plain_core.proofs.Objects.{extent_of, reads_object, reads_base}
 use Rattle.plain_core.proofs.Free.{AreBases, LeavesAlong, rest_stands, was_gone, stays_in, distinct_all, first_apart, differ}
 
@@ -188,11 +188,10 @@ pub marks_are : (origin : ℕ) (roots roots' words words' : List ℕ) (row row' 
 marks_are origin roots roots' words words' row row' marks marks' er ew eo em m =
     subst (MarksReached origin roots' words' row') (sym em) (subst (λ o. MarksReached origin roots' words' o marks) eo (subst (λ w. MarksReached origin roots' w row marks) ew (subst (λ r. MarksReached origin r words row marks) er m)))
 
--- there is room for all objects, before and after
-pub room_for : (c : PlainContents) → IsLaidOut c → (l : Listing) → HasListRoom (PAGE_WORDS * c.pages) l → HasListRoom (length c.objects) l
-room_for c sound l room =
-    let few : length c.objects ≤ PAGE_WORDS * c.pages = few_objects c.origin c.pages c.objects sound.in_heap sound.distinct in
-    let marks = room.marks in let order = room.order in record { marks = omega arith; order = omega arith }
-
+-- there is room for as many as before
 pub room_kept : (n : ℕ) (l l' : Listing) → HasListRoom n l → KeepsRoom l l' → HasListRoom n l'
 room_kept n l l' room kept = let marks = room.marks in let order = room.order in let same = kept.marks in let more = kept.order in record { marks = omega arith; order = omega arith }
+
+-- each object of a directory has a place among the marks
+pub marks_room : (d : Directory) (l l' : Listing) → HasListRoom (length d.owners.items) l → KeepsRoom l l' → length d.objects.items ≤ length l'.marks.items
+marks_room d l l' room kept = let r = room_kept (length d.owners.items) l l' room kept in let marks = r.marks in let few = d.few in omega arith

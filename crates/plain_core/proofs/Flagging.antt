@@ -2,7 +2,7 @@
 use Rattle.std.proofs.Common.{◌≡◌, ◌↔◌, ◌⊎◌, ℕ, ◌+◌, ◌<◌, ◌≤◌, Bool, true, false, List, [], ◌∷◌, length, get_or, refl, sym, ap, ◌∙◌, subst, arith, inl, inr, ⊎_elim}
 use Rattle.std.specs.Prelude.{Some, All, Contains, slice_get, slice_set}
 use Rattle.std.proofs.lemmas.Bool.{true≢false, cases_eq, cases_lt}
-use Rattle.std.proofs.lemmas.Option.{same_Some, slice_get_within, slice_get-get_or}
+use Rattle.std.proofs.lemmas.Option.{same_Some, slice_get_within}
 use Rattle.std.proofs.lemmas.List.{length-set, get_or-set_same, get_or-set_other, get_or_past}
 use Rattle.std.proofs.lemmas.List.Elements.{All-contains, Contains-get_or}
 use Rattle.words.specs.declared.class.Kind.TheVariants.{Normal}
@@ -17,11 +17,9 @@ use Rattle.links.specs.Leaving.{word_index}
 use Rattle.roots.specs.Roots.{root_words_of}
 use Rattle.plain_core.specs.declared.extent.Extent.{Extent}
 use Rattle.plain_core.specs.PlainContents.{PlainContents, IsLaidOut, IsInHeap}
-use Rattle.plain_core.specs.Collections.{TakesBases, CantTake}
 use Rattle.plain_core.specs.Reached.{IsReachedNth, by_root, by_link, MarksReached, links_of}
 use Rattle.plain_core.specs.Standing.{StandsFor, words_at}
-use Rattle.plain_core.specs.Flags.{IsFlagged, HasFlags, FlagsMarked, FlagsReached, FlagsLed, FlagsBrought, NamesRow, AreGone, ForgetsUnflagged, CantForget}
-use Rattle.plain_core.specs.Claims.{AreUnset}
+use Rattle.plain_core.specs.Flags.{IsFlagged, HasFlags, FlagsMarked, FlagsReached, FlagsLed, FlagsBrought}
 use Rattle.plain_core.proofs.Objects.{in_heap, extent_of, reads_object, reads_nothing}
 use Rattle.plain_core.proofs.Collects.{in_row, read_of, read_in, reads_at, points_at, reached_out, reached_in}
 
@@ -222,34 +220,6 @@ module _ (c : PlainContents) (sound : IsLaidOut c) (w : ℕ) (e : Extent) (has :
     adds = λ room s h lead base led. subst (IsFlagged c.origin (slice_set flags (word_index c.origin e.base) true)) (sym (led_alone s h led)) (get_or-set_same flags (word_index c.origin e.base) true false (has_flag c sound flags room e has));
   })
 
--- what is left is named
-named_all : (origin : ℕ) (flags : List Bool) (bases : List ℕ) (base : ℕ) (b : Bool) → get_or flags (word_index origin base) false ≡ b → ((IsFlagged origin flags base → ⊥) → Contains bases base) → IsFlagged origin flags base ⊎ Contains bases base
-named_all origin flags bases base true is rest = inl is
-named_all origin flags bases base false is rest = inr (rest (λ set. true≢false (sym set ∙ is)))
-
-pub forgets : (c : PlainContents) → IsLaidOut c → (flags : List Bool) (bases : List ℕ) (new : PlainContents) → NamesRow c.origin c.objects flags bases → TakesBases c bases false new → ForgetsUnflagged c flags bases new
-forgets c sound flags bases new names takes s h =
-    let x = takes s h in (
-      x.0,
-      x.1,
-      λ base o has out.
-          let e = extent_of c sound s h base o has in
-          ⊎_elim
-          (λ is. absurd (out (subst (IsFlagged c.origin flags) e.2 is)))
-          (λ among. subst (Contains bases) e.2 among)
-          (All-contains (λ (y : Extent). IsFlagged c.origin flags y.base ⊎ Contains bases y.base) c.objects e.0 names e.1),
-      x.3,
-    )
-
-pub cant_forget : (c : PlainContents) → (flags : List Bool) (bases : List ℕ) → (NamesRow c.origin c.objects flags bases → ⊥) → CantForget c flags bases
-cant_forget c flags bases none s h n s' takes names = none (λ k d lt.
-    let e : Extent = get_or c.objects k d in
-    let o = h.kept e (Contains-get_or c.objects k d lt) in
-    named_all c.origin flags bases e.base (get_or flags (word_index c.origin e.base) false) refl (λ out. names e.base o.0 o.1 out))
-
-pub cant_take : (c : PlainContents) (flags : List Bool) (bases : List ℕ) → CantTake c bases false → CantForget c flags bases
-cant_take c flags bases cant s h n s' takes names = cant s h n s' takes (λ e. absurd (true≢false (sym e)))
-
 -- what a call brought has its flags
 pub brought_nothing : (c : PlainContents) (slot : ℕ) (call : Call) (flags : List Bool) → (IsNoAlloc call → (s s' : Heap) (w : ℕ) → StandsFor c s' → IsBrought s slot call s' w → ⊥) → FlagsBrought c slot call flags flags
 brought_nothing c slot call flags none = record {
@@ -269,15 +239,3 @@ brought_flagged c slot call r w old new is stands f = record {
       let same : v ≡ w = stands_one s' slot r v w ((is s s' v).0 x) (stands s' h) in
       f.adds room s' h (subst (λ k. (at : ℕ) (o : Object) → PointsIntoObject s' k at o → IsFlagged c.origin old at → (b : ℕ) → LedTo s' k b → IsFlagged c.origin old b) same lead) base (subst (λ k. LedTo s' k base) same led);
 }
-
--- the flags by which objects stay tell which are named
-module _ (origin : ℕ) (row : List Extent) (flags : List Bool) (bases : List ℕ) (stays : List Bool) (unset : AreUnset row bases stays) where
-  pub gone_named : AreGone origin row flags stays → NamesRow origin row flags bases
-  gone_named gone k d lt =
-      let at : slice_get row k ≡ Some (get_or row k d) = slice_get-get_or row k d lt in
-      ⊎_elim (λ flag. inl flag) (λ off. inr (unset.only k (get_or row k d) at off)) (gone k (get_or row k d) at)
-
-  pub named_gone : NamesRow origin row flags bases → AreGone origin row flags stays
-  named_gone names i e at =
-      let both : IsFlagged origin flags e.base ⊎ Contains bases e.base = All-contains (λ (x : Extent). IsFlagged origin flags x.base ⊎ Contains bases x.base) row e names (in_row row i e at) in
-      ⊎_elim (λ flag. inl flag) (λ among. inr (unset.unset i e at among)) both

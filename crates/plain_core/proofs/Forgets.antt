@@ -1,36 +1,40 @@
 -- Objects that are named by their bases are taken out of a core and of its heap.
-use Rattle.std.proofs.Common.{◌≡◌, ℕ, ◌*◌, ◌<◌, ◌≤◌, Bool, true, false, eqb, List, [], length, get_or, replicate, refl, sym, ap, ◌∙◌, subst, arith, ⊎_elim}
-use Rattle.std.specs.Prelude.{Some, Contains, slice_get}
+use Rattle.std.proofs.Common.{◌≡◌, ℕ, zero, suc, ◌+◌, ◌<◌, ◌≤◌, Bool, true, false, eqb, List, [], length, get_or, replicate, take, refl, sym, ap, ◌∙◌, subst, arith, ⊎_elim}
+use Rattle.std.specs.Prelude.{Option, Some, None, All, Contains, slice_get, nat_eq}
+use Rattle.std.specs.List.{IsDistinct, list_any}
 use Rattle.std.specs.Cmp.{nat_eq_equiv}
-use Rattle.std.proofs.lemmas.Bool.{true≢false, eqb-true, eq-eqb}
-use Rattle.std.proofs.lemmas.List.{length-replicate, get_or-replicate}
-use Rattle.std.proofs.lemmas.List.Elements.{All-contains, All-weaker}
-use Rattle.std.proofs.lemmas.List.Folds.{list_any-from_Any}
-use Rattle.std.proofs.lemmas.Map.Made.{length-le_from_is_member}
+use Rattle.std.proofs.lemmas.Bool.{true≢false, eqb-true, eq-eqb, ne_eqb}
+use Rattle.std.proofs.lemmas.List.{length-replicate, get_or-replicate, take_all, take_more, length-take-le, get_or-take}
+use Rattle.std.proofs.lemmas.List.Elements.{All-contains, Contains-get_or}
+use Rattle.std.proofs.lemmas.List.Folds.{list_any-from_Any, list_any_none}
+use Rattle.std.proofs.lemmas.Map.Keys.{IsDistinct-push}
+use Rattle.std.proofs.lemmas.Map.Made.{IsDistinct-from_count, length-le_from_is_member}
 use Rattle.std.proofs.lemmas.Map.Views.{Contains-from_any}
-use Rattle.std.proofs.lemmas.Option.{slice_get_within, slice_get-get_or}
-use Rattle.words.specs.declared.class.Kind.TheVariants.{Normal}
-use Rattle.words.specs.declared.limits.TheConstants.{PAGE_WORDS}
+use Rattle.std.proofs.lemmas.Option.{none-some, slice_get_within, slice_get-get_or, get_or_from_slice_get}
 use Rattle.heap_spec.specs.Layout.{PointsInto}
 use Rattle.heap_spec.specs.Heap.{Heap, Object, HasObject, without}
 use Rattle.heap_spec.specs.declared.reply.Reply.{Reply}
 use Rattle.heap_spec.specs.declared.reply.Reply.TheVariants.{Count}
 use Rattle.heap_spec.specs.Closure.{Reached}
-use Rattle.heap_spec.specs.Cycles.{CollectsFully}
+use Rattle.heap_spec.specs.Cycles.{TakesOut, CollectsFully}
 use Rattle.links.specs.declared.row.Link.{Link}
 use Rattle.roots.specs.Roots.{root_words_of}
 use Rattle.plain_core.specs.declared.extent.Extent.{Extent}
+use Rattle.plain_core.specs.declared.wrongs.Wrong.{Wrong}
+use Rattle.plain_core.specs.declared.wrongs.Wrong.TheVariants.{IsMissing, StandsTwice, HasToStay, HasToGo}
 use Rattle.plain_core.specs.PlainContents.{PlainContents, IsLaidOut}
 use Rattle.plain_core.specs.Standing.{StandsFor}
-use Rattle.plain_core.specs.Collections.{HasUnreached, TakesBases, CantTake}
-use Rattle.plain_core.specs.Claims.{HasOneEach, IsFreeToGo, AreFreeToGo, AreUnset, AreAllUnset}
+use Rattle.plain_core.specs.Collections.{TakesBases, CantTake}
+use Rattle.plain_core.specs.Flags.{ForgetsUnflagged, CantForget}
+use Rattle.plain_core.specs.Wrongs.{IsWrong, TellsUncollected, TellsUnforgotten}
+use Rattle.plain_core.specs.Claims.{HasOneEach, AreUnset}
 use Rattle.plain_core.specs.Reached.{MarksReached}
 use Rattle.plain_core.specs.Parting.{Parts}
-use Rattle.plain_core.proofs.Objects.{extent_of, reads_base}
+use Rattle.plain_core.proofs.Objects.{reads_base}
 use Rattle.plain_core.proofs.Free.{AreBases, LeavesAlong, rest_stands, stays_in}
-use Rattle.plain_core.proofs.Freshness.{few_objects}
 use Rattle.plain_core.proofs.Lists.{nothing_in}
-use Rattle.plain_core.proofs.Collects.{at_place, in_row, sound_apart, not_reached, reached_out}
+use Rattle.plain_core.proofs.Claiming.{none_before}
+use Rattle.plain_core.proofs.Collects.{in_row, sound_apart, reached_out}
 
 -- no base is that of two objects of a sound core
 pub one_each : (c : PlainContents) → IsLaidOut c → HasOneEach c.objects
@@ -55,88 +59,97 @@ all_set_of row flags n is room = record {
     set : (i : ℕ) → i < length row → get_or flags i false ≡ false → ⊥
     set i lt flag = true≢false (sym (ap (λ l. get_or l i false) is ∙ get_or-replicate n i true false (omega arith)) ∙ flag)
 
--- the flags of a core have room for its objects
-pub room_of_flags : (c : PlainContents) → IsLaidOut c → (n : ℕ) → PAGE_WORDS * c.pages ≤ n → length c.objects ≤ n
-room_of_flags c sound n room = let few : length c.objects ≤ PAGE_WORDS * c.pages = few_objects c.origin c.pages c.objects sound.in_heap sound.distinct in omega arith
-
-pub all_set : (c : PlainContents) → IsLaidOut c → (flags : List Bool) (n : ℕ) → flags ≡ replicate n true → PAGE_WORDS * c.pages ≤ n → AreUnset c.objects [] flags
-all_set c sound flags n is room = all_set_of c.objects flags n is (room_of_flags c sound n room)
-
--- there is an object at each place
-get_at : (row : List Extent) (i : ℕ) → i < length row → (e : Extent) × (slice_get row i ≡ Some e)
-get_at row i lt = let e : Extent = get_or row i (record { base = 0; kind = Normal; length = 0 }) in (e, slice_get-get_or row i _ lt)
-
 -- what is not reached is not marked
 pub unmarked : (c : PlainContents) (sound : IsLaidOut c) (marks : List Bool) (m : MarksReached c.origin (root_words_of c.roots) c.words c.objects marks) (s : Heap) (h : StandsFor c s) (b : Bool) (i : ℕ) (e : Extent)
     → slice_get c.objects i ≡ Some e → (Reached s e.base → ⊥) → get_or marks i false ≡ b → get_or marks i false ≡ false
 unmarked c sound marks m s h true i e at out is = absurd (out (reached_out c sound s h i e (m.reached i is) at))
 unmarked c sound marks m s h false i e at out is = is
 
-module _ (c : PlainContents) (sound : IsLaidOut c) (marks : List Bool) (m : MarksReached c.origin (root_words_of c.roots) c.words c.objects marks) (bases : List ℕ) where
-  module _ (free : AreFreeToGo c.objects marks bases) (flags : List Bool) (unset : AreUnset c.objects bases flags) (stay : List Extent) (n : ℕ) (parts : Parts c.objects flags stay n) where
+-- Where the objects with some bases are said to be gone from a heap, and others have to go.
+module _ (s : Heap) (Goes : ℕ → Object → Type 0) (bases : List ℕ) where
+  abbrev Wrongs : Wrong → Type 0
+  Wrongs = IsWrong s (λ base o. Reached s base) Goes bases
+
+  -- if nothing is wrong, they can be taken out, and these are all
+  module _ (right : (x : Wrong) → Wrongs x → ⊥) where
+    pub all_there : All (λ b. (o : Object) × HasObject s b o) bases
+    all_there k d lt = there (get_or bases k d) (Contains-get_or bases k d lt) (s.objects (get_or bases k d)) refl
+      where
+        there : (b : ℕ) → Contains bases b → (found : Option Object) → s.objects b ≡ found → (o : Object) × HasObject s b o
+        there b has None is = absurd (right (IsMissing b) (has, λ o here. none-some o (sym is ∙ here)))
+        there b has (Some o) is = (o, is)
+
+    first_distinct : (n : ℕ) → n ≤ length bases → IsDistinct nat_eq (take n bases)
+    first_distinct zero few = IsDistinct-from_count nat_eq_equiv [] refl
+    first_distinct (suc n) few =
+        let lt : n < length bases = few in
+        let x : ℕ = get_or bases n 0 in
+        let next : n + 1 ≡ suc n = omega arith in
+        subst (λ k. IsDistinct nat_eq (take k bases)) next (subst (IsDistinct nat_eq) (sym (take_more bases n 0 lt)) (IsDistinct-push nat_eq_equiv (take n bases) x (first_distinct n (omega arith))
+        (list_any_none (eqb x) (take n bases) (λ k d short. ne_eqb x (get_or (take n bases) k d)
+        (λ same. right (StandsTwice x) (n, slice_get-get_or bases n 0 lt, subst (Contains (take n bases)) (sym same) (Contains-get_or (take n bases) k d short)))))))
+
+    pub can_take : TakesOut s bases (Count (length bases)) (without s bases)
+    can_take = record {
+      objects = all_there;
+      distinct = subst (IsDistinct nat_eq) (take_all (length bases) bases (omega arith)) (first_distinct (length bases) (omega arith));
+      unreached = λ k d lt reached. let o = all_there k d lt in right (HasToStay (get_or bases k d)) (Contains-get_or bases k d lt, (o.0, o.1, reached));
+      number = refl;
+      after = refl;
+    }
+
+    pub all_named : (base : ℕ) (o : Object) → HasObject s base o → Goes base o → Contains bases base
+    all_named base o has goes = named (list_any (eqb base) bases) refl
+      where
+        named : (b : Bool) → list_any (eqb base) bases ≡ b → Contains bases base
+        named true is = Contains-from_any eqb-true base bases is
+        named false is = absurd (right (HasToGo base) (λ among. true≢false (sym (list_any-from_Any (eqb base) bases (among.0, base, among.1, among.2, eq-eqb base base refl)) ∙ is), (o, has, goes)))
+
+  -- if something is, they can't
+  pub cant_take : (x : Wrong) → Wrongs x → (n : ℕ) (s' : Heap) → TakesOut s bases (Count n) s' → ((base : ℕ) (o : Object) → HasObject s base o → Goes base o → Contains bases base) → ⊥
+  cant_take (IsMissing b) w n s' t all = let o = All-contains (λ x. (o : Object) × HasObject s x o) bases b t.objects w.0 in w.1 o.0 o.1
+  cant_take (StandsTwice b) w n s' t all =
+      let lt : w.0 < length bases = slice_get_within bases w.0 b w.1 in
+      let here = w.2 in
+      let size : length (take w.0 bases) ≡ w.0 = length-take-le w.0 bases (omega arith) in
+      let short : here.0 < length (take w.0 bases) = here.1 in
+      let less : here.0 < w.0 = omega arith in
+      none_before bases t.distinct w.0 b lt (get_or_from_slice_get bases w.0 b b w.1) here.0 less (sym (get_or-take w.0 bases here.0 b less) ∙ here.2)
+  cant_take (HasToStay b) w n s' t all = All-contains (λ x. Reached s x → ⊥) bases b t.unreached w.0 w.1.2
+  cant_take (HasToGo b) w n s' t all = w.0 (all b w.1.0 w.1.1 w.1.2)
+
+-- the same of the heaps that a core stands for, once the objects were taken out
+module _ (c new : PlainContents) (bases : List ℕ) (taken : (s : Heap) → StandsFor c s → All (λ b. (o : Object) × HasObject s b o) bases → StandsFor new (without s bases)) where
+  pub takes_unreached : TellsUncollected c bases None → TakesBases c bases true new
+  takes_unreached right s h = (without s bases, can_take s _ bases (right s h), λ must. all_named s _ bases (right s h), taken s h (all_there s _ bases (right s h)))
+
+  pub takes_unflagged : (flags : List Bool) → TellsUnforgotten c flags bases None → ForgetsUnflagged c flags bases new
+  takes_unflagged flags right s h = (without s bases, can_take s _ bases (right s h), all_named s _ bases (right s h), taken s h (all_there s _ bases (right s h)))
+
+pub cant_collect : (c : PlainContents) (bases : List ℕ) (r : Option Wrong) → (r ≡ None → ⊥) → TellsUncollected c bases r → CantTake c bases true
+cant_collect c bases None some wrong s h n s' t rest = some refl
+cant_collect c bases (Some x) some wrong s h n s' t rest = cant_take s _ bases x (wrong s h).holds n s' t (rest refl)
+
+pub cant_forget : (c : PlainContents) (flags : List Bool) (bases : List ℕ) (r : Option Wrong) → (r ≡ None → ⊥) → TellsUnforgotten c flags bases r → CantForget c flags bases
+cant_forget c flags bases None some wrong s h n s' t rest = some refl
+cant_forget c flags bases (Some x) some wrong s h n s' t rest = cant_take s _ bases x (wrong s h).holds n s' t rest
+
+-- the objects whose flags are unset are those with these bases
+pub takes_out : (c : PlainContents) (sound : IsLaidOut c) (bases : List ℕ) (flags : List Bool) → AreUnset c.objects bases flags → (stay : List Extent) (n : ℕ) (parts : Parts c.objects flags stay n) (words : List ℕ) (links : List Link) → LeavesAlong c stay words links
+    → (s : Heap) → StandsFor c s → All (λ b. (o : Object) × HasObject s b o) bases → StandsFor (record c { words = words; objects = stay; links = links }) (without s bases)
+takes_out c sound bases flags unset stay n parts words links along s h there = rest_stands c sound parts.gone stay parts.all bases are words links along s h
+  where
     are : AreBases parts.gone bases
     are = record {
       of = λ b among.
-          let f : IsFreeToGo c.objects marks b = All-contains (IsFreeToGo c.objects marks) bases b free.each among in
+          let o = All-contains (λ x. (o : Object) × HasObject s x o) bases b there among in
+          let e = h.only b o.0 o.1 in
           ⊎_elim
-          (λ gone. (f.object, gone, f.is_base))
-          (λ stays. let u = parts.set f.object stays in absurd (true≢false (sym u.2 ∙ unset.unset u.0 f.object u.1 (subst (Contains bases) (sym f.is_base) among))))
-          (stays_in c sound parts.gone stay parts.all f.object (in_row c.objects f.index f.object f.there));
+          (λ gone. (e.0, gone, e.2))
+          (λ stays. let u = parts.set e.0 stays in absurd (true≢false (sym u.2 ∙ unset.unset u.0 e.0 u.1 (subst (Contains bases) (sym e.2) among))))
+          (stays_in c sound parts.gone stay parts.all e.0 e.1);
       all = λ e gone. let u = parts.unset e gone in unset.only u.0 e u.1 u.2;
     }
-
-    -- where every flag of what is not marked is unset, every object that is not reached is named
-    has_unreached : AreAllUnset (length c.objects) marks flags → (s : Heap) → StandsFor c s → HasUnreached s bases
-    has_unreached rest s h base o has out =
-        let e = extent_of c sound s h base o has in
-        let i = at_place c.objects e.0 e.1 in
-        let lt : i.0 < length c.objects = slice_get_within c.objects i.0 e.0 i.1 in
-        subst (Contains bases) e.2 (unset.only i.0 e.0 i.1 (rest.unset i.0 lt
-        (unmarked c sound marks m s h (get_or marks i.0 false) i.0 e.0 i.1 (λ r. out (subst (Reached s) e.2 r)) refl)))
-
-    pub takes : (words : List ℕ) (links : List Link) → LeavesAlong c stay words links → (all : Bool) → (all ≡ true → AreAllUnset (length c.objects) marks flags) → TakesBases c bases all (record c { words = words; objects = stay; links = links })
-    takes words links along all rest s h = (
-      without s bases,
-      record {
-        objects = All-weaker (IsFreeToGo c.objects marks) (λ b. (o : Object) × HasObject s b o)
-            (λ b f. let o = h.kept f.object (in_row c.objects f.index f.object f.there) in (o.0, ap s.objects (sym f.is_base) ∙ o.1)) bases free.each;
-        distinct = free.distinct;
-        unreached = All-weaker (IsFreeToGo c.objects marks) (λ b. Reached s b → ⊥)
-            (λ b f r. not_reached c sound s h marks m f.index f.object f.there f.unmarked (subst (Reached s) (sym f.is_base) r)) bases free.each;
-        number = refl;
-        after = refl;
-      },
-      λ must. has_unreached (rest must) s h,
-      rest_stands c sound parts.gone stay parts.all bases are words links along s h,
-    )
-
-  -- what may be taken out is free to go
-  pub cant : (all : Bool) → (AreFreeToGo c.objects marks bases → ⊥) → CantTake c bases all
-  cant all stuck s h n s' takes rest = stuck (record {
-    each = All-weaker (λ b. ((o : Object) × HasObject s b o) × (Reached s b → ⊥)) (IsFreeToGo c.objects marks) (λ b x. free b x.0.0 x.0.1 x.1) bases (λ k d lt. (takes.objects k d lt, takes.unreached k d lt));
-    distinct = takes.distinct;
-  })
-    where
-      free : (b : ℕ) (o : Object) → HasObject s b o → (Reached s b → ⊥) → IsFreeToGo c.objects marks b
-      free b o has out =
-          let e = extent_of c sound s h b o has in
-          let i = at_place c.objects e.0 e.1 in
-          record { index = i.0; object = e.0; there = i.1; is_base = e.2; unmarked = unmarked c sound marks m s h (get_or marks i.0 false) i.0 e.0 i.1 (λ r. out (subst (Reached s) e.2 r)) refl }
-
-  -- where one that is not reached is not named, they are not all
-  pub cant_all : (all : Bool) → all ≡ true → (flags : List Bool) → AreUnset c.objects bases flags → (AreAllUnset (length c.objects) marks flags → ⊥) → CantTake c bases all
-  cant_all all must flags unset stuck s h n s' removes rest = stuck (record {
-    unset = λ i lt is.
-        let e = get_at c.objects i lt in
-        let kept = h.kept e.0 (in_row c.objects i e.0 e.1) in
-        unset.unset i e.0 e.1 (rest must e.0.base kept.0 kept.1 (not_reached c sound s h marks m i e.0 e.1 is));
-  })
-
--- the same of equal rows
-pub all_unset_as : (n k : ℕ) (marks marks' flags flags' : List Bool) → n ≡ k → marks ≡ marks' → flags ≡ flags' → AreAllUnset n marks flags → AreAllUnset k marks' flags'
-all_unset_as n k marks marks' flags flags' size m f all = record {
-  unset = λ i lt is. ap (λ l. get_or l i false) (sym f) ∙ all.unset i (omega arith) (ap (λ l. get_or l i false) m ∙ is);
-}
 
 -- full collections of one heap take as many
 pub same_count : (s t t' : Heap) (a b : ℕ) → CollectsFully s (Count a) t → CollectsFully s (Count b) t' → a ≡ b

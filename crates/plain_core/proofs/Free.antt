@@ -194,24 +194,24 @@ frees c sound e rest perm words links along k r m at has same s h = (
     kept = h.kept e has
 
 -- an address inside an object that is not its base
-pub refuses_inside : (c : PlainContents) (sound : IsLaidOut c) (i : ℕ) (e x : Extent) (k r : ℕ) (m : Mutator) → HasMutator c.roots k m
-    → slice_get c.objects i ≡ Some e → x ≡ get_or c.objects i x → PointsInto (register m r) e.base e.length → x.base ≢ register m r
+pub refuses_inside : (c : PlainContents) (sound : IsLaidOut c) (i : ℕ) (e : Extent) (k r : ℕ) (m : Mutator) → HasMutator c.roots k m
+    → slice_get c.objects i ≡ Some e → PointsInto (register m r) e.base e.length → e.base ≢ register m r
     → StepsCall c k (Free r) (Refused NotBase) c
-refuses_inside c sound i e x k r m at there is reads apart =
+refuses_inside c sound i e k r m at there reads apart =
     keeps_all c k (Free r) (Refused NotBase) m at
     (λ s h.
     let has : Contains c.objects e = (i, slice_get_within c.objects i e there, get_or_from_slice_get c.objects i e e there) in
     let o = reads_object c sound s h e has (register m r) reads in
-    Acts.free_inside o.1 (λ same. apart (ap (λ (y : Extent). y.base) (is ∙ get_or_from_slice_get c.objects i e x there) ∙ same)))
+    Acts.free_inside o.1 apart)
 
 -- the object at a place goes, and the last one takes the place
-module _ (c : PlainContents) (sound : IsLaidOut c) (i : ℕ) (e : Extent) (objects : List Extent) (lt : i < length c.objects) (is : e ≡ get_or c.objects i e) (removed : objects ≡ swap_remove c.objects i e) where
+module _ (c : PlainContents) (sound : IsLaidOut c) (i : ℕ) (e : Extent) (objects : List Extent) (there : slice_get c.objects i ≡ Some e) (removed : objects ≡ swap_remove c.objects i e) where
   same_objects : IsPermutation c.objects ((e ∷ []) ++ objects)
-  same_objects = rw removed (IsPermutation-swap_remove c.objects i e lt is)
+  same_objects = rw removed (IsPermutation-swap_remove c.objects i e (slice_get_within c.objects i e there) (sym (get_or_from_slice_get c.objects i e e there)))
 
   pub remove_sound : (words : List ℕ) (links : List Link) → length words ≡ length c.words → IsLaidOut (record c { words = words; objects = objects; links = links })
   remove_sound = rest_sound c sound (e ∷ []) objects same_objects
 
   pub removes : (words : List ℕ) (links : List Link) → LeavesAlong c objects words links → (k r : ℕ) (m : Mutator) → HasMutator c.roots k m → e.base ≡ register m r
       → StepsCall c k (Free r) Done (record c { words = words; objects = objects; links = links })
-  removes words links along k r m at same = frees c sound e objects same_objects words links along k r m at (i, lt, sym is) same
+  removes words links along k r m at same = frees c sound e objects same_objects words links along k r m at (i, slice_get_within c.objects i e there, get_or_from_slice_get c.objects i e e there) same

@@ -17,6 +17,7 @@ pub mod Reaching
 pub mod Stays
 pub mod Collects
 pub mod Owning
+pub mod InDirectory
 pub mod PageWords
 pub mod Claiming
 pub mod Forgets

@@ -154,9 +154,6 @@ flagged_more origin row flags done e b marks short there set_is unset_is before 
     (cases_eq i done)
 
 -- the same, by equations
-pub named_are : (row row' : List Extent) (marks : List Bool) (bases : List ℕ) (r : Option Wrong) → row ≡ row' → TellsLowest (IsBelow (IsNamedAt row marks bases) (length bases)) r → TellsLowest (IsBelow (IsNamedAt row' marks bases) (length bases)) r
-named_are row row' marks bases r eo low = subst (λ o. TellsLowest (IsBelow (IsNamedAt o marks bases) (length bases)) r) eo low
-
 pub left_are : (row row' : List Extent) (marks marks' stays stays' : List Bool) (r : Option Wrong) → row ≡ row' → marks ≡ marks' → stays ≡ stays' → TellsLowest (IsBelow (IsLeftAt row marks stays) (length row)) r
     → TellsLowest (IsBelow (IsLeftAt row' marks' stays') (length row')) r
 left_are row row' marks marks' stays stays' r eo em es low =

@@ -1,19 +1,17 @@
 -- Each word of an object has the place of that object, written down one object after another.
-use Rattle.std.proofs.Common.{◌≡◌, ℕ, ◌+◌, ◌-◌, ◌%◌, ◌<◌, ◌≤◌, ◌⊎◌, List, [], ◌∷◌, ◌++◌, length, get_or, sym, ap, ◌∙◌, subst, arith, inl, inr, ⊎_elim, get_or-set_other}
+use Rattle.std.proofs.Common.{◌≡◌, ℕ, ◌+◌, ◌-◌, ◌<◌, ◌≤◌, ◌⊎◌, List, [], ◌∷◌, ◌++◌, length, get_or, sym, ap, ◌∙◌, subst, arith, inl, inr, ⊎_elim, get_or-set_other}
 use Rattle.std.specs.Prelude.{Some, All, slice_get, slice_set}
 use Rattle.std.specs.List.{swap_remove}
 use Rattle.std.proofs.lemmas.Bool.{cases_eq, cases_lt}
 use Rattle.std.proofs.lemmas.List.{get_or_append_left, get_or-take, length-take, length_push}
-use Rattle.std.proofs.lemmas.List.Elements.{All-nil, All-weaker}
+use Rattle.std.proofs.lemmas.List.Elements.{All-nil}
 use Rattle.std.proofs.lemmas.Option.{same_Some, none-some, slice_get_within, get_or_from_slice_get, slice_get-get_or}
-use Rattle.words.specs.declared.limits.TheConstants.{WORD_BYTES}
 use Rattle.heap_spec.specs.Layout.{PointsInto}
 use Rattle.links.specs.Leaving.{word_index}
 use Rattle.plain_core.specs.declared.extent.Extent.{Extent}
 use Rattle.plain_core.specs.Standing.{LiesIn}
 use Rattle.plain_core.specs.Reached.{PointsIntoNth, AreApart}
-use Rattle.plain_core.specs.PlainContents.{PlainContents, IsLaidOut, IsInHeap}
-use Rattle.plain_core.specs.Owners.{AreOwners, AreOwnersBut, AreFound}
+use Rattle.plain_core.specs.Owners.{AreOwners, AreOwnersBut}
 
 -- the object at a place of the row lies in it
 pub lies_at : (origin : ℕ) (row : List Extent) (words : List ℕ) → All (LiesIn origin words) row → (i : ℕ) (e : Extent) → slice_get row i ≡ Some e → LiesIn origin words e
@@ -171,7 +169,3 @@ own_removed origin row index e owners own = record {
       ∙ get_or_from_slice_get (swap_remove row index e) i p.0 p.0 p.1 in
       own.owned w i (p.0, slice_get-get_or row i p.0 all ∙ ap Some is, p.2);
 }
-
--- objects of a core are found by the first bytes of words too
-pub found_by : (c : PlainContents) → IsLaidOut c → (owners : List ℕ) → AreOwners c.origin c.objects owners → AreFound c.origin c.objects owners
-found_by c sound owners own = record { owned = own; aligned = All-weaker (IsInHeap c.origin c.pages) (λ (e : Extent). e.base % WORD_BYTES ≡ 0) (λ e i. i.aligned) c.objects sound.in_heap }

@@ -7,7 +7,7 @@ use Rattle.words.specs.declared.limits.TheConstants.{WORD_BYTES, PAGE_WORDS}
 use Rattle.words.specs.Layout.{page_start}
 use Rattle.heap_spec.specs.Layout.{PointsInto, LiesOn}
 use Rattle.plain_core.specs.declared.extent.Extent.{Extent}
-use Rattle.plain_core.specs.Owners.{AreOwners, AreFound}
+use Rattle.plain_core.specs.Owners.{AreOwners}
 use Rattle.plain_core.specs.Places.{word_start, AreCutWords}
 use Rattle.plain_core.proofs.Owning.{one_there}
 
@@ -20,13 +20,13 @@ word_on page e even some lies = ⊎_elim
 on_word : (page g : ℕ) (e : Extent) → g < PAGE_WORDS → PointsInto (word_start page g) e.base e.length → LiesOn e.base e.length page
 on_word page g e lt reads = (omega (arith, lt, reads.0), omega (arith, reads.1))
 
-module _ (origin : ℕ) (row : List Extent) (owners : List ℕ) (found : AreFound origin row owners) (P : Extent → Type 0) (page : ℕ) where
+module _ (row : List Extent) (some : All (λ e. 0 < e.length) row) (evens : All (λ e. e.base % WORD_BYTES ≡ 0) row) (P : Extent → Type 0) (page : ℕ) where
   -- what is so of each object that has such a byte is so of each that lies on the page
   pub all_on : (n : ℕ) → PAGE_WORDS ≤ n → ((g : ℕ) → g < n → All (λ e. PointsInto (word_start page g) e.base e.length → P e) row) → All (λ e. LiesOn e.base e.length page → P e) row
   all_on n all so k d lt lies =
       let e : Extent = get_or row k d in
-      let more : 0 < e.length = found.owned.some k d lt in
-      let g = word_on page e (found.aligned k d lt) more lies in
+      let more : 0 < e.length = some k d lt in
+      let g = word_on page e (evens k d lt) more lies in
       so g.0 (omega (arith, g.1, all)) k d lt g.2
 
   pub not_on : (g : ℕ) → g < PAGE_WORDS → (All (λ e. PointsInto (word_start page g) e.base e.length → P e) row → ⊥) → All (λ e. LiesOn e.base e.length page → P e) row → ⊥

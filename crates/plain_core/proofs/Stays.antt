@@ -2,13 +2,15 @@
 use Rattle.std.proofs.Common.{◌≡◌, ℕ, ◌+◌, ◌<◌, ◌≤◌, Bool, true, false, List, [], ◌∷◌, ◌++◌, length, get_or, set, take, refl, sym, ap, ◌∙◌, subst, arith, append_assoc, ⊎_elim, get_or-set_other, length-set}
 use Rattle.std.specs.Prelude.{Some, Contains, IsPermutation, slice_get}
 use Rattle.std.proofs.lemmas.Option.{slice_get-get_or}
-use Rattle.std.proofs.lemmas.List.{take_all, take_more, take_more_set, length_push, get_or_default}
-use Rattle.std.proofs.lemmas.List.Elements.{Contains-push_cases}
-use Rattle.std.proofs.lemmas.List.Sorted.{IsPermutation-refl, IsPermutation-trans, IsPermutation-append_comm, IsPermutation-append_left, IsPermutation-append_right}
+use Rattle.std.proofs.lemmas.List.{take_all, take_more, take_more_set, length_push, get_or_default, get_or-take, length-take-le}
+use Rattle.std.proofs.lemmas.List.Elements.{Contains-push_cases, Contains-append_right}
+use Rattle.std.proofs.lemmas.List.Sorted.{IsPermutation-refl, IsPermutation-trans, IsPermutation-append_comm, IsPermutation-append_left, IsPermutation-append_right, IsPermutation-sym, Contains-permutation}
 use Rattle.words.specs.declared.class.Kind.TheVariants.{Normal}
 use Rattle.plain_core.specs.declared.extent.Extent.{Extent}
 use Rattle.plain_core.specs.Parting.{HasFlag, Parts}
+use Rattle.plain_core.specs.Reached.{AreApart}
 use Rattle.plain_core.proofs.Lists.{nothing_in}
+use Rattle.plain_core.proofs.InDirectory.{apart_pushed}
 
 -- The first objects of the old row were looked at; those that stay are now the first of the new one.
 pub record IsKept (old : List Extent) (flags : List Bool) (index stay : ℕ) (row : List Extent) : Type 0 where
@@ -42,6 +44,21 @@ module _ (old : List Extent) (flags : List Bool) where
     next : take (index + 1) old ≡ take index old ++ x ∷ []
     next = take_more old index x lt ∙ ap (λ y. take index old ++ y ∷ []) (sym was)
 
+    front : take (stay + 1) (set row stay x) ≡ take stay row ++ x ∷ []
+    front = take_more_set row stay x (let n = h.number in let size = h.size in omega arith)
+
+    -- where all are apart, so are those that stay
+    pub kept_apart : AreApart old → AreApart (take stay row) → AreApart (take (stay + 1) (set row stay x))
+    kept_apart apart before = subst AreApart (sym front) (apart_pushed (take stay row) before x
+        (λ f w has reads rf.
+        let earlier : Contains (take index old) f = Contains-permutation (h.gone ++ take stay row) (take index old) f (IsPermutation-sym (take index old) (h.gone ++ take stay row) h.all) (Contains-append_right h.gone (take stay row) f has) in
+        let short : length (take index old) ≡ index = length-take-le index old (omega arith) in
+        let within = earlier.1 in
+        let less : earlier.0 < index = omega arith in
+        let at : slice_get old earlier.0 ≡ Some f = slice_get-get_or old earlier.0 f (omega arith) ∙ ap Some (sym (get_or-take index old earlier.0 f less) ∙ earlier.2) in
+        let same : earlier.0 ≡ index = apart.one w earlier.0 index (f, at, rf) (x, there, reads) in
+        omega arith))
+
     pub kept_stays : get_or flags index false ≡ true → IsKept old flags (index + 1) (stay + 1) (set row stay x)
     kept_stays flag = record {
       gone = h.gone;
@@ -53,9 +70,6 @@ module _ (old : List Extent) (flags : List Bool) where
       set = λ e has. ⊎_elim (λ before. h.set e before) (λ same. subst (HasFlag old flags true) same (index, there, flag)) (Contains-push_cases (take stay row) x e (subst (λ l. Contains l e) front has));
       unset = h.unset;
     }
-      where
-        front : take (stay + 1) (set row stay x) ≡ take stay row ++ x ∷ []
-        front = take_more_set row stay x (let n = h.number in let size = h.size in omega arith)
 
     pub kept_goes : get_or flags index false ≡ false → IsKept old flags (index + 1) stay row
     kept_goes flag = record {

@@ -1,5 +1,5 @@
 -- Flags of objects, by where the words at their bases stand in the row of all words, whose first has the address `origin`.
-use Rattle.std.specs.Prelude.{◌≡◌, ◌↔◌, ◌⊎◌, ℕ, ◌*◌, ◌<◌, ◌≤◌, Bool, true, false, Some, List, All, Contains, length, slice_get, slice_index_or}
+use Rattle.std.specs.Prelude.{◌≡◌, ◌↔◌, ◌⊎◌, ℕ, ◌*◌, ◌<◌, ◌≤◌, Bool, true, false, Some, List, Contains, length, slice_get, slice_index_or}
 use Rattle.words.specs.declared.limits.TheConstants.{PAGE_WORDS}
 use Rattle.heap_spec.specs.declared.call.Call.{Call}
 use Rattle.heap_spec.specs.declared.reply.Reply.TheVariants.{Count}
@@ -42,14 +42,6 @@ pub record FlagsLed (c : PlainContents) (w : ℕ) (old new : List Bool) : Type 0
   pub keeps : (base : ℕ) → IsFlagged c.origin old base → IsFlagged c.origin new base
   pub only : (s : Heap) → StandsFor c s → (base : ℕ) (o : Object) → HasObject s base o → IsFlagged c.origin new base → IsFlagged c.origin old base ⊎ LedTo s w base
   pub adds : HasFlags c.pages old → (s : Heap) → StandsFor c s → LeadsToFlagged c.origin s old w → (base : ℕ) → LedTo s w base → IsFlagged c.origin new base
-
--- each object of the row has its flag, or its base is named
-abbrev pub NamesRow : ℕ → List Extent → List Bool → List ℕ → Type 0
-NamesRow origin row flags bases = All (λ e. IsFlagged origin flags e.base ⊎ Contains bases e.base) row
-
--- each object of the row has its flag, or the flag by which it stays is unset
-abbrev pub AreGone : ℕ → List Extent → List Bool → List Bool → Type 0
-AreGone origin row flags stays = (i : ℕ) (e : Extent) → slice_get row i ≡ Some e → IsFlagged origin flags e.base ⊎ (slice_index_or stays i false ≡ false)
 
 -- every object without a flag is among these
 abbrev pub NamesUnflagged : ℕ → Heap → List Bool → List ℕ → Type 0

@@ -1,8 +1,7 @@
 -- A list of objects that grows.
-use Rattle.std.specs.Prelude.{◌≡◌, ℕ, ◌*◌, ◌≤◌, ◌<◌, Bool, true, false, List, ◌++◌, length, Contains, slice_index_or, nat_eq}
+use Rattle.std.specs.Prelude.{◌≡◌, ℕ, ◌≤◌, ◌<◌, Bool, true, false, List, ◌++◌, length, Contains, slice_index_or, nat_eq}
 use Rattle.std.specs.List.{IsDistinct}
 use Rattle.std.specs.Vec.{vec_capacity}
-use Rattle.words.specs.declared.limits.TheConstants.{PAGE_WORDS}
 use Rattle.plain_core.specs.declared.extent.Extent.{Extent}
 use Rattle.plain_core.specs.declared.listing.Listing.{Listing}
 use Rattle.plain_core.specs.Reached.{PointsIntoNth, AreApart}
@@ -12,13 +11,11 @@ pub record HasListRoom (count : ℕ) (l : Listing) : Type 0 where
   pub marks : count ≤ length l.marks.items
   pub order : count ≤ vec_capacity l.order
 
--- What is taken for so many pages beside their words: for each word room for an object, in the row of objects, on the list and
--- among the flags, and a place for its owner.
-pub record HasMemory (pages row : ℕ) (listing : Listing) (stays owners : ℕ) : Type 0 where
-  pub objects : PAGE_WORDS * pages ≤ row
-  pub lists : HasListRoom (PAGE_WORDS * pages) listing
-  pub flags : PAGE_WORDS * pages ≤ stays
-  pub words : owners ≡ PAGE_WORDS * pages
+-- What is taken for so many words beside them: for each an owner, and room for an object on the list and among the flags.
+pub record HasMemory (words owners : ℕ) (listing : Listing) (stays : ℕ) : Type 0 where
+  pub owned : words ≡ owners
+  pub lists : HasListRoom owners listing
+  pub flags : owners ≤ stays
 
 -- Some of so many objects are on the list, each once, and the row marks these.
 pub record IsListOf (count : ℕ) (order : List ℕ) (marks : List Bool) : Type 0 where

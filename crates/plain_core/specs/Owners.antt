@@ -1,6 +1,5 @@
 -- Which object each word of the heap belongs to, which begins at `origin`.
-use Rattle.std.specs.Prelude.{◌≡◌, ℕ, ◌%◌, ◌≤◌, ◌<◌, List, All, length, slice_index}
-use Rattle.words.specs.declared.limits.TheConstants.{WORD_BYTES}
+use Rattle.std.specs.Prelude.{◌≡◌, ℕ, ◌≤◌, ◌<◌, List, All, length, slice_index}
 use Rattle.links.specs.Leaving.{word_index}
 use Rattle.plain_core.specs.declared.extent.Extent.{Extent}
 use Rattle.plain_core.specs.Reached.{PointsIntoNth}
@@ -16,8 +15,3 @@ pub record AreOwners (origin : ℕ) (row : List Extent) (owners : List ℕ) : Ty
 -- The same, but the words of the object of one index in the row have anything.
 pub record AreOwnersBut (origin index : ℕ) (row : List Extent) (owners : List ℕ) : Type 0 where
   pub owned : (w i : ℕ) → (i ≡ index → ⊥) → PointsIntoNth row w i → slice_index owners (word_index origin w) ≡ i
-
--- Objects are found by what is written down of their words, also by the first bytes of words, since each begins at one.
-pub record AreFound (origin : ℕ) (row : List Extent) (owners : List ℕ) : Type 0 where
-  pub owned : AreOwners origin row owners
-  pub aligned : All (λ e. e.base % WORD_BYTES ≡ 0) row

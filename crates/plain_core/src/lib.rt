@@ -7,6 +7,7 @@
 
 mod along;
 mod claims;
+mod directory;
 mod extent;
 mod flags;
 mod fresh;
@@ -19,6 +20,7 @@ mod parting;
 mod paths;
 mod places;
 mod plain;
+mod reach;
 mod wrongs;
 
 pub use extent::Extent;

@@ -1,13 +1,11 @@
-//! Which object each word of the heap belongs to, written down so that an object is found without a search.
-ghost use Rattle.std.specs.Prelude.{◌≡◌, ◌≤◌, ◌<◌, ◌+◌, ◌⊎◌, ℕ, IfSome, IfNone, IfOk, IfErr, All, Contains, Some, length, slice_get, slice_index};
-ghost use Rattle.heap_spec.specs.Layout.{PointsInto};
+//! Which object each word of the heap belongs to, written down.
+ghost use Rattle.std.specs.Prelude.{◌≡◌, ◌≤◌, ◌<◌, ◌+◌, ◌⊎◌, ℕ, All, length, slice_index};
 ghost use Rattle.links.specs.Leaving.{word_index};
 ghost use Rattle.plain_core.specs.Standing.{LiesIn};
 ghost use Rattle.plain_core.specs.Reached.{AreApart};
 ghost use Rattle.plain_core.specs.Owners.{AreOwners, AreOwnersBut};
 
 use crate::extent::Extent;
-use words::Refusal;
 use words::limits::WORD_BYTES;
 
 // Puts a word into so many places of a row.
@@ -55,75 +53,4 @@ pub(crate) fn write_owner(origin: u64, objects: &[Extent], owners: &mut [u64], i
     let object = objects[index];
     let start = word_index(origin, object.base);
     fill(owners, start, object.length as usize, index as u64);
-}
-
-// Where the object stands that the address points into.
-pub(crate) fn owner_at(
-    origin: u64,
-    objects: &[Extent],
-    owners: &[u64],
-    address: u64,
-) -> Option<usize>
-    requires { AreOwners origin objects.now owners.now }
-    ensures some { IfSome result (λ i. (e : Extent) × (slice_get objects.now i ≡ Some e) × PointsInto address e.base e.length) }
-    ensures none { IfNone result (All (λ e. PointsInto address e.base e.length → ⊥) objects.now) }
-{
-    if address < origin {
-        return None;
-    }
-    let position = word_index(origin, address);
-    if position >= owners.len() {
-        return None;
-    }
-    let index = owners[position] as usize;
-    if index >= objects.len() {
-        return None;
-    }
-    // A word of no object may have an owner that was there before.
-    if !objects[index].contains(address) {
-        return None;
-    }
-    Some(index)
-}
-
-// Where the object with this base stands.
-pub(crate) fn owner_of(origin: u64, objects: &[Extent], owners: &[u64], base: u64) -> Option<usize>
-    requires { AreOwners origin objects.now owners.now }
-    ensures some { IfSome result (λ i. (e : Extent) × (slice_get objects.now i ≡ Some e) × (e.base ≡ base)) }
-    ensures none { IfNone result (All (λ e. e.base ≡ base → ⊥) objects.now) }
-{
-    let index = owner_at(origin, objects, owners, base)?;
-    if objects[index].base != base {
-        return None;
-    }
-    Some(index)
-}
-
-// The object that the address points into.
-pub(crate) fn object_at(
-    origin: u64,
-    objects: &[Extent],
-    owners: &[u64],
-    address: u64,
-) -> Option<Extent>
-    requires { AreOwners origin objects.now owners.now }
-    ensures some { IfSome result (λ e. Contains objects.now e × PointsInto address e.base e.length) }
-    ensures none { IfNone result (All (λ e. PointsInto address e.base e.length → ⊥) objects.now) }
-{
-    let index = owner_at(origin, objects, owners, address)?;
-    Some(objects[index])
-}
-
-// The object that the address points into, for a call that is refused where there is none.
-pub(crate) fn find_in(
-    origin: u64,
-    objects: &[Extent],
-    owners: &[u64],
-    address: u64,
-) -> Result<Extent, Refusal>
-    requires { AreOwners origin objects.now owners.now }
-    ensures ok { IfOk result (λ e. Contains objects.now e × PointsInto address e.base e.length) }
-    ensures err { IfErr result (λ refusal. (refusal ≡ Refusal.NoObject) × All (λ e. PointsInto address e.base e.length → ⊥) objects.now) }
-{
-    object_at(origin, objects, owners, address).ok_or(Refusal::NoObject)
 }

@@ -3,13 +3,16 @@ ghost use Rattle.std.specs.Prelude.{◌≡◌, ◌≤◌, List, length};
 ghost use Rattle.std.specs.Vec.{vec_capacity};
 ghost use Rattle.plain_core.specs.declared.extent.Extent.{Extent as ExtentValue};
 ghost use Rattle.plain_core.specs.Parting.{Parts};
+ghost use Rattle.plain_core.specs.Reached.{AreApart};
 
+use crate::directory::Directory;
 use crate::extent::Extent;
 
 // Keeps the objects whose flag is set, in their order, and answers how many others there were.
 pub(crate) fn keep_flagged(objects: &mut Vec<Extent>, flags: &[bool]) -> usize
     requires { length objects.old.items ≤ length flags.now }
     ensures parts { Parts objects.old.items flags.now objects.new.items result }
+    ensures apart { AreApart objects.old.items → AreApart objects.new.items }
     ensures capacity { vec_capacity objects.new ≡ vec_capacity objects.old }
 {
     let count = objects.len();
@@ -24,17 +27,19 @@ pub(crate) fn keep_flagged(objects: &mut Vec<Extent>, flags: &[bool]) -> usize
     count - stay
 }
 
-// How many objects there are whose flag isn't set.
-pub(crate) fn count_unflagged(objects: &[Extent], flags: &[bool]) -> usize
-    requires { length objects.now ≤ length flags.now }
-    ensures { (stay : List ExtentValue) × Parts objects.now flags.now stay result }
-{
-    let count = objects.len();
-    let mut stay = 0;
-    for index in 0..count {
-        if flags[index] {
-            stay += 1;
+impl Directory {
+    // How many objects there are whose flag isn't set.
+    pub(crate) fn count_unflagged(&self, flags: &[bool]) -> usize
+        requires { length self.now.objects.items ≤ length flags.now }
+        ensures { (stay : List ExtentValue) × Parts self.now.objects.items flags.now stay result }
+    {
+        let count = self.len();
+        let mut stay = 0;
+        for index in 0..count {
+            if flags[index] {
+                stay += 1;
+            }
         }
+        count - stay
     }
-    count - stay
 }

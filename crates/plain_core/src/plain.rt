@@ -20,10 +20,10 @@ mod registers;
 mod replaying;
 mod touching;
 
-use crate::extent::Extent;
-use crate::listing::Listing;
+use crate::directory::Directory;
+use crate::reach::Reach;
 use links::Links;
-use roots::{RootWords, Roots};
+use roots::Roots;
 use std::alloc::Global;
 use std::marker::Model;
 use words::OpenError;
@@ -32,31 +32,26 @@ use words::limits::{FIRST_ADDRESS, MAX_PAGES, MAX_REQUEST_WORDS, PAGE_WORDS};
 /// A heap core.
 #[derive(Drop)]
 pub struct Core {
-    origin: u64,
     pages: u32,
     words: Vec<u64>,
-    objects: Vec<Extent>,
+    directory: Directory,
     roots: Roots,
-    root_words: RootWords,
-    owners: Vec<u64>,
-    listing: Listing,
+    reach: Reach,
     stays: Vec<bool>,
     links: Links,
 }
 
 impl Model for Core {
-    ghost use Rattle.std.specs.Vec.{vec_capacity, vec_len};
+    ghost use Rattle.std.specs.Prelude.{length};
     ghost use Rattle.plain_core.specs.PlainContents.{PlainContents, IsLaidOut};
     ghost use Rattle.plain_core.specs.Listing.{HasMemory};
-    ghost use Rattle.plain_core.specs.Owners.{AreOwners};
 
     ghost Value = { PlainContents };
 
-    ghost view = { λ c. record { origin = c.origin; pages = c.pages; words = c.words.items; objects = c.objects.items; roots = c.roots; links = c.links } };
+    ghost view = { λ c. record { origin = c.directory.origin; pages = c.pages; words = c.words.items; objects = c.directory.objects.items; roots = c.roots; links = c.links } };
 
-    ghost invariant = { λ c. IsLaidOut (record { origin = c.origin; pages = c.pages; words = c.words.items; objects = c.objects.items; roots = c.roots; links = c.links })
-        × HasMemory c.pages (vec_capacity c.objects) c.listing (vec_len c.stays) (vec_len c.owners)
-        × AreOwners c.origin c.objects.items c.owners.items };
+    ghost invariant = { λ c. IsLaidOut (record { origin = c.directory.origin; pages = c.pages; words = c.words.items; objects = c.directory.objects.items; roots = c.roots; links = c.links })
+        × HasMemory (length c.words.items) (length c.directory.owners.items) c.reach.listing (length c.stays.items) };
 }
 
 impl Core {
@@ -83,22 +78,18 @@ impl Core {
         if pages == 0 || pages > MAX_PAGES {
             return Err(OpenError::BadPages);
         }
-        let words = vec![in alloc; 0u64; PAGE_WORDS as usize * pages as usize]?;
-        let objects = Vec::with_capacity(alloc, PAGE_WORDS as usize * pages as usize)?;
-        let owners = vec![in alloc; 0u64; PAGE_WORDS as usize * pages as usize]?;
+        let count = PAGE_WORDS as usize * pages as usize;
+        let words = vec![in alloc; 0u64; count]?;
+        let directory = Directory::new(alloc, origin, count)?;
         let roots = Roots::new(alloc, MAX_REQUEST_WORDS)?;
-        let root_words = RootWords::new(alloc)?;
-        let listing = Listing::new(alloc, PAGE_WORDS as usize * pages as usize)?;
-        let stays = vec![in alloc; true; PAGE_WORDS as usize * pages as usize]?;
+        let reach = Reach::new(alloc, count)?;
+        let stays = vec![in alloc; true; count]?;
         Ok(Core {
-            origin,
             pages,
             words,
-            objects,
+            directory,
             roots,
-            root_words,
-            owners,
-            listing,
+            reach,
             stays,
             links: Links::new(),
         })

@@ -7,8 +7,7 @@ ghost use Rattle.plain_core.specs.Answering.{FindsExtent, HoldsWord, FindsNothin
 
 use super::Core;
 use crate::extent::Extent;
-use crate::owners::{object_at, word_index};
-use crate::places::place_for;
+use crate::owners::word_index;
 use heap_spec::{Call, Reply};
 use links::is_normal;
 use roots::Mutator;
@@ -56,7 +55,7 @@ impl Core {
         ensures some { IfSome result (λ e. FindsExtent self.now address e) }
         ensures none { IfNone result (FindsNothing self.now address) }
     {
-        object_at(self.origin, &self.objects, &self.owners, address)
+        self.directory.object_at(address)
     }
 
     // The word at an address that points into an object.
@@ -64,8 +63,8 @@ impl Core {
         ensures some { IfSome result (λ w. HoldsWord self.now address w) }
         ensures none { IfNone result (FindsNothing self.now address) }
     {
-        object_at(self.origin, &self.objects, &self.owners, address)?;
-        let position = word_index(self.origin, address);
+        self.directory.object_at(address)?;
+        let position = word_index(self.directory.origin, address);
         Some(self.words[position])
     }
 
@@ -104,14 +103,7 @@ impl Core {
         let Some(placement) = self.roots.placement(words) else {
             return Reply::Refused(Refusal::BadSize);
         };
-        let Some(_object) = place_for(
-            self.origin,
-            &self.objects,
-            &self.owners,
-            self.pages,
-            placement,
-            kind,
-        ) else {
+        let Some(_object) = self.directory.place_for(self.pages, placement, kind) else {
             return Reply::Refused(Refusal::Full);
         };
         Reply::Done

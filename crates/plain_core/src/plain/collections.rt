@@ -1,45 +1,11 @@
 //! The calls that take out what is not reached.
-ghost use Rattle.std.specs.Prelude.{◌≡◌, IsTrue, All, true, false, length};
-ghost use Rattle.roots.specs.Roots.{root_words_of};
-ghost use Rattle.plain_core.specs.Standing.{LiesIn};
-ghost use Rattle.plain_core.specs.Owners.{AreOwners};
-ghost use Rattle.plain_core.specs.Reached.{AreApart, MarksReached};
-ghost use Rattle.plain_core.specs.Discovery.{IsDiscovered};
-ghost use Rattle.plain_core.specs.Listing.{HasListRoom, IsListing, KeepsRoom};
+ghost use Rattle.std.specs.Prelude.{◌≡◌, IsTrue, All, true, false};
+ghost use Rattle.heap_spec.specs.Heap.{Heap, Object, HasObject, without};
+ghost use Rattle.plain_core.specs.Standing.{StandsFor};
 ghost use Rattle.plain_core.specs.Collections.{IsCollected, HasGarbage, CantCollect, TakesBases, CantTake};
 
 use super::Core;
 use crate::along::take_along;
-use crate::claims::{are_all_named, unset_flags};
-use crate::extent::Extent;
-use crate::listing::{Listing, list_reached};
-use crate::owners::write_owners;
-use crate::parting::{count_unflagged, keep_flagged};
-use roots::{RootWords, Roots};
-
-// Lists the objects that are reached from the roots.
-pub(super) fn list_from_roots(
-    roots: &Roots,
-    root_words: &mut RootWords,
-    words: &[u64],
-    origin: u64,
-    objects: &[Extent],
-    owners: &[u64],
-    listing: &mut Listing,
-)
-    requires apart { AreApart objects.now }
-    requires owners { AreOwners origin objects.now owners.now }
-    requires lie { All (LiesIn origin words.now) objects.now }
-    requires room { HasListRoom (length objects.now) listing.old }
-    ensures marks { MarksReached origin (root_words_of roots.now) words.now objects.now listing.new.marks.items }
-    ensures listed { IsListing objects.now listing.new }
-    ensures discovered { IsDiscovered origin (root_words_of roots.now) words.now objects.now listing.new.order.items }
-    ensures room { KeepsRoom listing.old listing.new }
-{
-    roots.write_words(root_words);
-    let from = root_words.as_slice();
-    list_reached(from, words, origin, objects, owners, listing);
-}
 
 impl Core {
     /// Takes out all objects that are not reached, and answers how many.
@@ -47,24 +13,10 @@ impl Core {
         ensures collected { IsCollected self.old result self.new }
         ensures origin { self.new.origin ≡ self.old.origin }
     {
-        list_from_roots(
-            &self.roots,
-            &mut self.root_words,
-            &self.words,
-            self.origin,
-            &self.objects,
-            &self.owners,
-            &mut self.listing,
-        );
-        let count = keep_flagged(&mut self.objects, &self.listing.marks);
-        write_owners(self.origin, &self.objects, &mut self.owners);
-        take_along(
-            &mut self.words,
-            self.origin,
-            &self.objects,
-            &self.owners,
-            &mut self.links,
-        );
+        self.reach
+            .list(&self.roots, &[], &self.words, &self.directory);
+        let count = self.directory.keep_flagged(&self.reach.listing.marks);
+        take_along(&mut self.words, &self.directory, &mut self.links);
         count as u64
     }
 
@@ -73,16 +25,9 @@ impl Core {
         ensures garbage { HasGarbage self.old result }
         ensures same { self.new ≡ self.old }
     {
-        list_from_roots(
-            &self.roots,
-            &mut self.root_words,
-            &self.words,
-            self.origin,
-            &self.objects,
-            &self.owners,
-            &mut self.listing,
-        );
-        count_unflagged(&self.objects, &self.listing.marks) as u64
+        self.reach
+            .list(&self.roots, &[], &self.words, &self.directory);
+        self.directory.count_unflagged(&self.reach.listing.marks) as u64
     }
 
     /// Takes out all objects that are not reached, if they are so many. Else nothing changes.
@@ -99,47 +44,15 @@ impl Core {
         true
     }
 
-    // Takes out the objects with these bases, if they are distinct objects none of which is reached, and with `all` every
-    // such object. Else nothing changes.
-    pub(super) fn take(&mut self, bases: &[u64], all: bool) -> bool
-        ensures yes { IsTrue result → TakesBases self.old bases.now all self.new }
-        ensures no { result ≡ false → CantTake self.old bases.now all }
-        ensures same { result ≡ false → self.new ≡ self.old }
+    // Takes out the objects with these bases, where each is that of one.
+    pub(super) fn take_out(&mut self, bases: &[u64])
+        ensures taken { (s : Heap) → StandsFor self.old s → All (λ b. (o : Object) × HasObject s b o) bases.now → StandsFor self.new (without s bases.now) }
         ensures origin { self.new.origin ≡ self.old.origin }
     {
-        list_from_roots(
-            &self.roots,
-            &mut self.root_words,
-            &self.words,
-            self.origin,
-            &self.objects,
-            &self.owners,
-            &mut self.listing,
-        );
         self.stays.fill(true);
-        if !unset_flags(
-            bases,
-            self.origin,
-            &self.objects,
-            &self.owners,
-            &self.listing.marks,
-            &mut self.stays,
-        ) {
-            return false;
-        }
-        if !are_all_named(all, self.objects.len(), &self.listing.marks, &self.stays) {
-            return false;
-        }
-        let _gone = keep_flagged(&mut self.objects, &self.stays);
-        write_owners(self.origin, &self.objects, &mut self.owners);
-        take_along(
-            &mut self.words,
-            self.origin,
-            &self.objects,
-            &self.owners,
-            &mut self.links,
-        );
-        true
+        self.directory.unset_named(bases, &mut self.stays);
+        let _gone = self.directory.keep_flagged(&self.stays);
+        take_along(&mut self.words, &self.directory, &mut self.links);
     }
 
     /// Takes out all objects that are not reached, if these are their bases, each once. Else nothing changes.
@@ -149,6 +62,10 @@ impl Core {
         ensures same { result ≡ false → self.new ≡ self.old }
         ensures origin { self.new.origin ≡ self.old.origin }
     {
-        self.take(bases, true)
+        let None = self.wrong_collected(bases) else {
+            return false;
+        };
+        self.take_out(bases);
+        true
     }
 }

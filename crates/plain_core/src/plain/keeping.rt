@@ -7,11 +7,8 @@ ghost use Rattle.plain_core.specs.Standing.{StandsFor};
 ghost use Rattle.plain_core.specs.Keepers.{TellsKeeper};
 
 use super::Core;
-use super::collections::list_from_roots;
 use crate::extent::Extent;
-use crate::keepers::{Keeper, link_into};
-use crate::listing::at;
-use crate::owners::owner_of;
+use crate::keepers::Keeper;
 
 impl Core {
     // The word of another object that keeps an object into which no root points.
@@ -21,23 +18,10 @@ impl Core {
         ensures keeper { (s : Heap) → StandsFor self.old s → TellsKeeper s object.base result }
         ensures same { self.new ≡ self.old }
     {
-        list_from_roots(
-            &self.roots,
-            &mut self.root_words,
-            &self.words,
-            self.origin,
-            &self.objects,
-            &self.owners,
-            &mut self.listing,
-        );
-        let Some((_, keeper)) = link_into(
-            &self.listing.order,
-            self.origin,
-            &self.words,
-            &self.objects,
-            own,
-            object,
-        ) else {
+        self.reach
+            .list(&self.roots, &[], &self.words, &self.directory);
+        let order = &self.reach.listing.order;
+        let Some((_, keeper)) = self.directory.link_into(order, &self.words, own, object) else {
             return None;
         };
         Some(keeper)
@@ -49,10 +33,8 @@ impl Core {
         ensures keeper { (s : Heap) → StandsFor self.old s → TellsKeeper s base result }
         ensures same { self.new ≡ self.old }
     {
-        let Some(own) = owner_of(self.origin, &self.objects, &self.owners, base) else {
-            return None;
-        };
-        let object = at(&self.objects, own);
+        let own = self.directory.index_of(base)?;
+        let object = self.directory.object(own);
         if let Some(root) = self.roots.root_into(object.base, object.length) {
             return Some(Keeper::ByRoot(root));
         }

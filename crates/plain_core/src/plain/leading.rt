@@ -5,9 +5,7 @@ ghost use Rattle.plain_core.specs.Standing.{StandsFor};
 ghost use Rattle.plain_core.specs.Paths.{TellsPath};
 
 use super::Core;
-use super::collections::list_from_roots;
-use crate::owners::owner_of;
-use crate::paths::{PathStep, place_of, walk_back};
+use crate::paths::{PathStep, place_of};
 use std::alloc::{AllocError, Global};
 
 impl Core {
@@ -16,31 +14,17 @@ impl Core {
         ensures path { IfOk result (λ path. (s : Heap) → StandsFor self.old s → TellsPath s base path) }
         ensures same { self.new ≡ self.old }
     {
-        let Some(own) = owner_of(self.origin, &self.objects, &self.owners, base) else {
+        let Some(own) = self.directory.index_of(base) else {
             return Ok(None);
         };
-        list_from_roots(
-            &self.roots,
-            &mut self.root_words,
-            &self.words,
-            self.origin,
-            &self.objects,
-            &self.owners,
-            &mut self.listing,
-        );
-        let Some(place) = place_of(&self.listing.order, own) else {
+        self.reach
+            .list(&self.roots, &[], &self.words, &self.directory);
+        let listing = &self.reach.listing;
+        let Some(place) = place_of(&listing.order, own) else {
             return Ok(None);
         };
         let mut path = Vec::new(alloc);
-        walk_back(
-            &self.roots,
-            self.origin,
-            &self.words,
-            &self.objects,
-            &self.listing,
-            place,
-            &mut path,
-        )?;
+        listing.walk_back(&self.roots, &self.words, &self.directory, place, &mut path)?;
         path.reverse();
         Ok(Some(path))
     }

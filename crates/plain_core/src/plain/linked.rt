@@ -4,7 +4,6 @@ ghost use Rattle.heap_spec.specs.Replies.{IsStep, count_reply, done_reply};
 ghost use Rattle.plain_core.specs.Standing.{StandsFor};
 
 use super::Core;
-use crate::owners::find_in;
 use heap_spec::{Call, Event};
 use links::is_normal;
 use words::limits::WORD_BYTES;
@@ -22,11 +21,11 @@ impl Core {
         if address % WORD_BYTES != 0 {
             return Err(Refusal::Misaligned);
         }
-        let holder = find_in(self.origin, &self.objects, &self.owners, address)?;
+        let holder = self.directory.find(address)?;
         if is_normal(holder.kind) {
             return Err(Refusal::NotPointerFree);
         }
-        let named = find_in(self.origin, &self.objects, &self.owners, word)?;
+        let named = self.directory.find(word)?;
         if !self.links.has_room(address) {
             return Err(Refusal::LinksFull);
         }

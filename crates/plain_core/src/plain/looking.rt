@@ -27,19 +27,13 @@ impl Core {
     pub fn objects(&self) -> &[Extent]
         ensures { result.now ≡ self.now.objects }
     {
-        self.objects.as_slice()
+        self.directory.objects.as_slice()
     }
 
     /// The word at an address, if one of the objects has it.
     pub fn word(&self, address: u64) -> Option<u64>
         ensures { result ≡ word_of self.now address }
     {
-        word_in(
-            &self.words,
-            self.origin,
-            &self.objects,
-            &self.owners,
-            address,
-        )
+        word_in(&self.words, &self.directory, address)
     }
 }

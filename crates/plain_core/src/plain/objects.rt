@@ -8,10 +8,7 @@ ghost use Rattle.plain_core.specs.Answering.{MayBePut, IsPut, StandsSoundly, IsA
 use super::Core;
 use crate::along::take_along;
 use crate::extent::Extent;
-use crate::fresh::may_be_put;
-use crate::given_place::place_at;
-use crate::owners::{fill, find_in, owner_at, word_index, write_owner};
-use crate::places::place_for;
+use crate::owners::{fill, word_index};
 use heap_spec::{Call, Event};
 use words::limits::WORD_BYTES;
 use words::{Kind, Refusal, Reg, Slot};
@@ -29,8 +26,8 @@ impl Core {
         if address % WORD_BYTES != 0 {
             return Err(Refusal::Misaligned);
         }
-        find_in(self.origin, &self.objects, &self.owners, address)?;
-        let position = word_index(self.origin, address);
+        self.directory.find(address)?;
+        let position = word_index(self.directory.origin, address);
         let word = self.words[position];
         self.roots.set_word(slot, into, word);
         Ok(word)
@@ -47,8 +44,8 @@ impl Core {
         if address % WORD_BYTES != 0 {
             return Err(Refusal::Misaligned);
         }
-        find_in(self.origin, &self.objects, &self.owners, address)?;
-        let position = word_index(self.origin, address);
+        self.directory.find(address)?;
+        let position = word_index(self.directory.origin, address);
         self.words[position] = word;
         Ok(())
     }
@@ -60,11 +57,9 @@ impl Core {
         ensures put { IsPut self.old slot into object self.new }
         ensures origin { self.new.origin ≡ self.old.origin }
     {
-        let start = word_index(self.origin, object.base);
+        let start = word_index(self.directory.origin, object.base);
         fill(&mut self.words, start, object.length as usize, 0);
-        let index = self.objects.len();
-        let _pushed = self.objects.push(object);
-        write_owner(self.origin, &self.objects, &mut self.owners, index);
+        self.directory.insert(object);
         self.roots.set_word(slot, into, object.base);
     }
 
@@ -76,23 +71,12 @@ impl Core {
     {
         self.mutator(slot).ok_or(Refusal::NoSlot)?;
         let placement = self.roots.placement(words).ok_or(Refusal::BadSize)?;
-        let object = place_for(
-            self.origin,
-            &self.objects,
-            &self.owners,
-            self.pages,
-            placement,
-            kind,
-        )
-        .ok_or(Refusal::Full)?;
+        let object = self
+            .directory
+            .place_for(self.pages, placement, kind)
+            .ok_or(Refusal::Full)?;
         // Only an object that lies elsewhere than its class places it can be in the way.
-        if !may_be_put(
-            self.origin,
-            &self.objects,
-            &self.owners,
-            self.pages,
-            &object,
-        ) {
+        if !self.directory.may_be_put(self.pages, &object) {
             return Err(Refusal::Full);
         }
         self.put(slot, into, object);
@@ -113,24 +97,10 @@ impl Core {
         let Some(placement) = self.roots.placement(words) else {
             return false;
         };
-        let Some(object) = place_at(
-            self.origin,
-            &self.objects,
-            &self.owners,
-            self.pages,
-            placement,
-            kind,
-            base,
-        ) else {
+        let Some(object) = self.directory.place_at(self.pages, placement, kind, base) else {
             return false;
         };
-        if !may_be_put(
-            self.origin,
-            &self.objects,
-            &self.owners,
-            self.pages,
-            &object,
-        ) {
+        if !self.directory.may_be_put(self.pages, &object) {
             return false;
         }
         self.put(slot, into, object);
@@ -160,13 +130,7 @@ impl Core {
             return false;
         }
         let object = Extent { base, kind, length };
-        if !may_be_put(
-            self.origin,
-            &self.objects,
-            &self.owners,
-            self.pages,
-            &object,
-        ) {
+        if !self.directory.may_be_put(self.pages, &object) {
             return false;
         }
         self.put(slot, into, object);
@@ -180,22 +144,12 @@ impl Core {
     {
         let mutator = self.roots.attached(slot)?;
         let address = mutator.word(at);
-        let index = owner_at(self.origin, &self.objects, &self.owners, address).ok_or(
-            Refusal::NoObject,
-        )?;
-        let object = self.objects[index];
-        if object.base != address {
+        let index = self.directory.index_at(address).ok_or(Refusal::NoObject)?;
+        if self.directory.object(index).base != address {
             return Err(Refusal::NotBase);
         }
-        let _freed = self.objects.swap_remove(index);
-        write_owner(self.origin, &self.objects, &mut self.owners, index);
-        take_along(
-            &mut self.words,
-            self.origin,
-            &self.objects,
-            &self.owners,
-            &mut self.links,
-        );
+        let _freed = self.directory.remove(index);
+        take_along(&mut self.words, &self.directory, &mut self.links);
         Ok(())
     }
 
@@ -206,7 +160,7 @@ impl Core {
     {
         let mutator = self.roots.attached(slot)?;
         let word = mutator.word(at);
-        let object = find_in(self.origin, &self.objects, &self.owners, word)?;
+        let object = self.directory.find(word)?;
         self.roots.set_word(slot, into, object.base);
         Ok(object.base)
     }
@@ -217,7 +171,7 @@ impl Core {
     {
         let mutator = self.roots.attached(slot)?;
         let word = mutator.word(at);
-        let object = find_in(self.origin, &self.objects, &self.owners, word)?;
+        let object = self.directory.find(word)?;
         Ok(object.length)
     }
 }

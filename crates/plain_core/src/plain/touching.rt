@@ -1,20 +1,14 @@
 //! Flags that a caller keeps of the objects that were touched since a cycle began: how they are set, and how they tell what has to
 //! be forgotten.
-ghost use Rattle.std.specs.Prelude.{◌≡◌, ◌↔◌, ◌∷◌, [], ℕ, IsTrue, IfSome, IfNone, All, false, length};
+ghost use Rattle.std.specs.Prelude.{◌≡◌, ◌↔◌, ℕ, IsTrue, IfSome, IfNone, false, length};
 ghost use Rattle.heap_spec.specs.Heap.{Heap};
 ghost use Rattle.heap_spec.specs.Laws.{IsNoAlloc};
 ghost use Rattle.heap_spec.specs.Touching.{IsBrought, StandsIn};
-ghost use Rattle.plain_core.specs.Standing.{StandsFor, LiesIn};
-ghost use Rattle.plain_core.specs.Reached.{AreApart, MarksReached};
-ghost use Rattle.plain_core.specs.Listing.{HasListRoom, KeepsRoom};
+ghost use Rattle.plain_core.specs.Standing.{StandsFor};
 ghost use Rattle.plain_core.specs.Flags.{FlagsReached, FlagsLed, FlagsBrought, ForgetsUnflagged, CantForget};
 
 use super::Core;
-use super::collections::list_from_roots;
-use crate::extent::Extent;
-use crate::flags::{are_named, flag_marked, has_no_links, is_flagged, set_flag, unset_all};
-use crate::listing::list_reached;
-use crate::owners::object_at;
+use crate::flags::{has_no_links, unset_all};
 use heap_spec::Call;
 use words::{Reg, Slot};
 
@@ -37,17 +31,10 @@ impl Core {
         ensures size { length flags.new ≡ length flags.old }
         ensures same { self.new ≡ self.old }
     {
-        list_from_roots(
-            &self.roots,
-            &mut self.root_words,
-            &self.words,
-            self.origin,
-            &self.objects,
-            &self.owners,
-            &mut self.listing,
-        );
+        self.reach
+            .list(&self.roots, &[], &self.words, &self.directory);
         unset_all(flags);
-        flag_marked(self.origin, &self.objects, &self.listing.marks, flags);
+        self.directory.flag_marked(&self.reach.listing.marks, flags);
     }
 
     /// Sets the flags of all objects that a word leads to, unless what it points into has its flag: then so have they.
@@ -55,26 +42,20 @@ impl Core {
         ensures flags { FlagsLed self.old word flags.old flags.new }
         ensures same { self.new ≡ self.old }
     {
-        let Some(object) = object_at(self.origin, &self.objects, &self.owners, word) else {
+        let Some(object) = self.directory.object_at(word) else {
             return;
         };
-        if is_flagged(self.origin, flags, object.base) {
+        if self.directory.is_flagged(object.base, flags) {
             return;
         }
         // A new object needs no more.
-        if has_no_links(object, self.origin, &self.words) {
-            set_flag(self.origin, flags, object.base);
+        if has_no_links(object, self.directory.origin, &self.words) {
+            self.directory.set_flag(object.base, true, flags);
             return;
         }
-        list_reached(
-            &[word],
-            &self.words,
-            self.origin,
-            &self.objects,
-            &self.owners,
-            &mut self.listing,
-        );
-        flag_marked(self.origin, &self.objects, &self.listing.marks, flags);
+        let listing = &mut self.reach.listing;
+        listing.list_closure(&[word], &[], &self.words, &self.directory);
+        self.directory.flag_marked(&self.reach.listing.marks, flags);
     }
 
     /// Takes out the objects with these bases, if they are distinct objects none of which is reached, and every object without
@@ -85,17 +66,11 @@ impl Core {
         ensures same { result ≡ false → self.new ≡ self.old }
         ensures origin { self.new.origin ≡ self.old.origin }
     {
-        if !are_named(
-            self.origin,
-            &self.objects,
-            &self.owners,
-            flags,
-            bases,
-            &mut self.stays,
-        ) {
+        let None = self.wrong_forgotten(bases, flags) else {
             return false;
-        }
-        self.take(bases, false)
+        };
+        self.take_out(bases);
+        true
     }
 
     // The word of a register, if the slot has a mutator.

@@ -7,7 +7,7 @@ use Rattle.plain_core.proofs.along.keep_links.Given as goal
 -- so far
 abbrev pub invariant-loop-link : goal.invariant-loop-link
 invariant-loop-link l = record {
-  items : l.into.items ≡ filter (stays_with (holds_word l.objects) (has_base l.objects)) (take l.link-index l.row);
+  items : l.into.items ≡ filter (stays_with (holds_word l.directory.objects.items) (has_base l.directory.objects.items)) (take l.link-index l.row);
   few : length l.into.items ≤ l.link-index;
-  along : ClearsWords l.origin (holds_word l.objects) (has_base l.objects) (take l.link-index l.row) l.fn.words l.words;
+  along : ClearsWords l.directory.origin (holds_word l.directory.objects.items) (has_base l.directory.objects.items) (take l.link-index l.row) l.fn.words l.words;
 }

@@ -1,12 +1,8 @@
-use Rattle.std.proofs.Common.{sym, ap, ◌∙◌}
+use Rattle.std.proofs.Common.{refl, sym, ap, ◌∙◌}
 use Rattle.words.specs.Placing.{placement_of}
 use Rattle.plain_core.specs.PlainContents.{PlainContents}
 use Rattle.plain_core.proofs.Alloc.{cant_place, cant_size, cant_call, cant_share, fits_by, put_at}
-use Rattle.plain_core.proofs.Owning.{found_by}
 use Rattle.plain_core.proofs.plain.Core.alloc_at.Goals as goal
-
-pub place_at-requires-clause-found : goal.place_at-requires-clause-found
-place_at-requires-clause-found c = rw (c.deref.ensures.value, c.deref-2.ensures.value) (found_by _ c.self.invariant.0 _ c.self.invariant.2)
 
 pub returns-in_default-clause-no : goal.returns-in_default-clause-no
 returns-in_default-clause-no c refused = cant_call _ _ _ _ _ _ c.in_default.ensures.none
@@ -16,25 +12,22 @@ returns-in_default-placement-clause-no c refused = cant_size _ _ _ _ _ _ (sym (c
 
 pub returns-in_default-place_at-clause-no : goal.returns-in_default-place_at-clause-no
 returns-in_default-place_at-clause-no c refused =
-    rw (← c.self.view_is) (cant_place _ c.self.invariant.0 _ _ _ _ _ c.in-Some-placement.placement (sym c.placement.ensures.placement ∙ c.in-Some-placement.is) (rw c.deref.ensures.value at c.in_default-place_at.ensures.none))
-
-pub may_be_put-requires-clause-found : goal.may_be_put-requires-clause-found
-may_be_put-requires-clause-found c = rw (c.deref-3.ensures.value, c.deref-4.ensures.value) (found_by _ c.self.invariant.0 _ c.self.invariant.2)
+    rw (← c.self.view_is) (cant_place _ c.self.invariant.0 _ _ _ _ _ c.in-Some-placement.placement (sym c.placement.ensures.placement ∙ c.in-Some-placement.is) c.in_default-place_at.ensures.none)
 
 pub returns-then-not-may_be_put-clause-no : goal.returns-then-not-may_be_put-clause-no
 returns-then-not-may_be_put-clause-no c refused =
     let some = c.in-Some-place_at.ensures.some in
-    let room = rw c.deref.ensures.value at some.3 in
+    let room = some.3 in
     rw (← c.self.view_is)
     (cant_share _ c.self.invariant.0 _ _ c.args.words _ _ _ c.in-Some-place_at.object (sym c.placement.ensures.placement ∙ c.in-Some-placement.is) some.2 some.0 room
-    (λ fits. c.may_be_put.ensures.no c.if-not-may_be_put.true fits.in_heap (rw c.deref-3.ensures.value fits.fresh)))
+    (λ fits. c.may_be_put.ensures.no c.if-not-may_be_put.true fits.in_heap fits.fresh))
 
 pub put-requires-clause-fits : goal.put-requires-clause-fits
-put-requires-clause-fits c = let yes = c.may_be_put.ensures.yes c.if-not-may_be_put.false in fits_by _ _ c.self.view_is _ c.deref-3.ensures.value _ yes.0 yes.1
+put-requires-clause-fits c = let yes = c.may_be_put.ensures.yes c.if-not-may_be_put.false in fits_by _ _ c.self.view_is _ refl _ yes.0 yes.1
 
 pub returns-clause-yes : goal.returns-clause-yes
 returns-clause-yes c done =
     let some = c.in-Some-place_at.ensures.some in
-    let room = rw c.deref.ensures.value at some.3 in
+    let room = some.3 in
     let is = sym c.placement.ensures.placement ∙ c.in-Some-placement.is in
     rw (← c.self.view_is) (put_at _ _ c.self.invariant.0 _ _ c.args.words _ _ _ c.in-Some-place_at.object c.in-Some.field-0.now (rw (← c.self.view_is) at c.in-Some.ensures.some) is some.1 some.2 some.0 room (rw (← c.self.view_is) at c.put.ensures.put))

@@ -3,13 +3,10 @@ use Rattle.plain_core.proofs.Answering.{none_then}
 use Rattle.plain_core.proofs.Objects.{reads_object, reads_nothing}
 use Rattle.plain_core.proofs.plain.Core.found.Goals as goal
 
-pub object_at-requires : goal.object_at-requires
-object_at-requires c = rw (c.deref.ensures.value, c.deref-2.ensures.value) c.self.invariant.2
-
 pub returns-clause-some : goal.returns-clause-some
 returns-clause-some c = rw (← c.self.view_is)
-    (IfSome_then c.object_at.result c.object_at.ensures.some (λ e here s h. reads_object _ c.self.invariant.0 s h e (rw c.deref.ensures.value at here.0) _ here.1))
+    (IfSome_then c.object_at.result c.object_at.ensures.some (λ e here s h. reads_object _ c.self.invariant.0 s h e here.0 _ here.1))
 
 pub returns-clause-none : goal.returns-clause-none
 returns-clause-none c = rw (← c.self.view_is)
-    (none_then c.object_at.result c.object_at.ensures.none (λ none s h. reads_nothing _ c.self.invariant.0 s h _ (rw c.deref.ensures.value at none)))
+    (none_then c.object_at.result c.object_at.ensures.none (λ none s h. reads_nothing _ c.self.invariant.0 s h _ none))

@@ -5,9 +5,6 @@ use Rattle.plain_core.proofs.Objects.{reads_nothing}
 use Rattle.plain_core.proofs.LoadStore.{sizes}
 use Rattle.plain_core.proofs.plain.Core.size.Goals as goal
 
-pub find_in-requires : goal.find_in-requires
-find_in-requires c = rw (c.deref.ensures.value, c.deref-2.ensures.value) c.self.invariant.2
-
 pub returns-in_err-mutator : goal.returns-in_err-mutator
 returns-in_err-mutator c = rw (← c.self.view_is, handed_on _ _ _ c.from_residual.ensures.1 c.in_err-mutator.ensures.err.0) (refused_vacant _ _ _ c.in_err-mutator.ensures.err.1)
 
@@ -15,12 +12,12 @@ pub returns-in_err-object : goal.returns-in_err-object
 returns-in_err-object c =
     rw (← c.self.view_is, handed_on _ _ _ c.from_residual-in_err-object.ensures.1 c.in_err-object.ensures.err.0)
     (let at = c.in_ok-mutator.ensures.ok in
-    let none = rw (c.deref.ensures.value, c.word-word.ensures) at c.in_err-object.ensures.err.1 in
+    let none = rw c.word-word.ensures at c.in_err-object.ensures.err.1 in
     keeps_all _ _ _ _ c.in_ok-mutator.mutator.now at (λ s h. Acts.size_nothing (reads_nothing _ c.self.invariant.0 s h _ none)))
 
 pub returns : goal.returns
 returns c =
     rw (← c.self.view_is)
-    (let has = rw c.deref.ensures.value at c.in_ok-object.ensures.ok.0 in
+    (let has = c.in_ok-object.ensures.ok.0 in
     let reads = rw c.word-word.ensures at c.in_ok-object.ensures.ok.1 in
     sizes _ _ _ _ _ c.self.invariant.0 c.in_ok-mutator.ensures.ok has reads)

@@ -1,48 +1,35 @@
-use Rattle.std.proofs.Common.{refl, sym, subst, ap, arith, length, ◌∙◌}
+use Rattle.std.proofs.Common.{refl, sym, ap, arith, length, ◌∙◌}
 use Rattle.std.proofs.lemmas.List.{with_items_is}
-use Rattle.plain_core.specs.Claims.{AreUnset}
-use Rattle.plain_core.proofs.Collects.{sound_apart, marks_are, room_for, room_kept}
-use Rattle.plain_core.proofs.Forgets.{one_each, all_set}
-use Rattle.plain_core.specs.Wrongs.{MarksFlagged}
-use Rattle.plain_core.proofs.Lowest.{named_are, left_are, unforgotten}
+use Rattle.plain_core.proofs.Collects.{marks_are, marks_room}
+use Rattle.plain_core.proofs.Forgets.{all_set_of}
+use Rattle.plain_core.proofs.Lowest.{left_are, unforgotten}
 use Rattle.plain_core.proofs.plain.Core.wrong_forgotten.Goals as goal
 
-pub list_from_roots-requires-clause-apart : goal.list_from_roots-requires-clause-apart
-list_from_roots-requires-clause-apart c = rw c.deref-2.ensures.value (sound_apart _ c.self.invariant.0)
-
-pub list_from_roots-requires-clause-room : goal.list_from_roots-requires-clause-room
-list_from_roots-requires-clause-room c = rw c.deref-2.ensures.value (room_for _ c.self.invariant.0 _ c.self.invariant.1.lists)
-
-pub lowest_named-named-requires-clause-one : goal.lowest_named-named-requires-clause-one
-lowest_named-named-requires-clause-one c = rw c.deref-4.ensures.value (one_each _ c.self.invariant.0)
+pub list-requires-clause-words : goal.list-requires-clause-words
+list-requires-clause-words c = rw c.deref.ensures.value c.self.invariant.1.owned
 
 pub lowest_named-named-requires-clause-marks : goal.lowest_named-named-requires-clause-marks
-lowest_named-named-requires-clause-marks c = rw (c.deref-4.ensures.value, c.deref-6.ensures.value) (room_for _ c.self.invariant.0 _ (room_kept _ _ _ c.self.invariant.1.lists c.list_from_roots.ensures.room)).marks
+lowest_named-named-requires-clause-marks c = rw c.deref-2.ensures.value (marks_room c.self.inside.directory _ _ c.self.invariant.1.lists c.list.ensures.room)
 
 pub lowest_named-named-requires-clause-flags : goal.lowest_named-named-requires-clause-flags
-lowest_named-named-requires-clause-flags c = rw c.deref-4.ensures.value (all_set _ c.self.invariant.0 _ _ (c.fill.ensures.items (λ y clone. clone)) c.self.invariant.1.flags)
+lowest_named-named-requires-clause-flags c = all_set_of _ _ _ (c.fill.ensures.items (λ y clone. clone)) (let few = c.self.inside.directory.few in let room = c.self.invariant.1.flags in omega (arith, c.self.inside.stays.ok.0))
 
-pub mark_flagged-requires-clause-marks : goal.mark_flagged-requires-clause-marks
-mark_flagged-requires-clause-marks c = rw (c.deref-7.ensures.value, c.deref_mut.ensures.value) (room_for _ c.self.invariant.0 _ (room_kept _ _ _ c.self.invariant.1.lists c.list_from_roots.ensures.room)).marks
+pub mark_flagged-requires : goal.mark_flagged-requires
+mark_flagged-requires c = rw c.deref_mut.ensures.value (marks_room c.self.inside.directory _ _ c.self.invariant.1.lists c.list.ensures.room)
 
 pub lowest_left-left-requires-clause-marks : goal.lowest_left-left-requires-clause-marks
 lowest_left-left-requires-clause-marks c =
-    let room = (room_for _ c.self.invariant.0 _ (room_kept _ _ _ c.self.invariant.1.lists c.list_from_roots.ensures.room)).marks in
+    let room = marks_room c.self.inside.directory _ _ c.self.invariant.1.lists c.list.ensures.room in
     let long = c.mark_flagged.ensures.size ∙ ap length c.deref_mut.ensures.value in
-    let same = with_items_is c.list_from_roots.new.listing.marks c.mark_flagged.new.marks (long ∙ sym c.list_from_roots.new.listing.marks.ok.0) in
-    rw (c.deref-8.ensures.value, c.deref-9.ensures.value, same) (omega (arith, long, room))
+    let same = with_items_is c.list.new.self.listing.marks c.mark_flagged.new.marks (long ∙ sym c.list.new.self.listing.marks.ok.0) in
+    rw (c.deref-3.ensures.value, same) (omega (arith, long, room))
 
 pub returns-clause-wrong : goal.returns-clause-wrong
 returns-clause-wrong c =
     let long = c.mark_flagged.ensures.size ∙ ap length c.deref_mut.ensures.value in
     rw (← c.self.view_is)
-    (unforgotten _ c.self.invariant.0 c.deref-6.result.now
-    (marks_are _ _ _ _ _ _ _ _ _ refl c.deref.ensures.value c.deref-2.ensures.value c.deref-6.ensures.value c.list_from_roots.ensures.marks)
-    c.args.bases.now c.lowest_named-named.new.stays.items
-    (subst (λ o. AreUnset o c.args.bases.now c.lowest_named-named.new.stays.items) c.deref-4.ensures.value c.lowest_named-named.ensures.unset)
-    c.args.flags.now c.mark_flagged.new.marks
-    (subst (λ o. MarksFlagged c.self.inside.origin o c.args.flags.now c.mark_flagged.new.marks) c.deref-7.ensures.value c.mark_flagged.ensures.marked)
-    _ _ _
-    (named_are _ _ _ _ _ c.deref-4.ensures.value c.lowest_named-named.ensures.wrong)
-    (left_are _ _ _ _ _ _ _ c.deref-8.ensures.value (c.deref-9.ensures.value ∙ with_items_is c.list_from_roots.new.listing.marks c.mark_flagged.new.marks (long ∙ sym c.list_from_roots.new.listing.marks.ok.0)) c.deref-10.ensures.value c.lowest_left-left.ensures)
+    (unforgotten _ c.self.invariant.0 c.deref-2.result.now
+    (marks_are _ _ _ _ _ _ _ _ _ refl c.deref.ensures.value refl c.deref-2.ensures.value (c.list.ensures.reached refl))
+    c.args.bases.now c.lowest_named-named.new.stays.items c.lowest_named-named.ensures.unset c.args.flags.now c.mark_flagged.new.marks c.mark_flagged.ensures.marked _ _ _ c.lowest_named-named.ensures.wrong
+    (left_are _ _ _ _ _ _ _ refl (c.deref-3.ensures.value ∙ with_items_is c.list.new.self.listing.marks c.mark_flagged.new.marks (long ∙ sym c.list.new.self.listing.marks.ok.0)) c.deref-4.ensures.value c.lowest_left-left.ensures)
     c.lower.ensures)

@@ -1,7 +1,0 @@
-use Rattle.std.proofs.Common.{◌≡◌, take, length}
-use Rattle.plain_core.specs.Claims.{AreFreeToGo, AreUnset}
-use Rattle.plain_core.proofs.claims.unset_flags.Given as goal
-
--- so far
-abbrev pub invariant-loop-base : goal.invariant-loop-base
-invariant-loop-base l = AreFreeToGo l.objects l.marks (take l.base-index l.bases) × AreUnset l.objects (take l.base-index l.bases) l.flags.items × (length l.flags.items ≡ length l.fn.flags.items)

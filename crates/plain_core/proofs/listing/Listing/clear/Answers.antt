@@ -1,0 +1,15 @@
+use Rattle.std.proofs.Common.{arith}
+use Rattle.plain_core.proofs.InDirectory.{apart_of}
+use Rattle.plain_core.proofs.Lists.{nothing_listed}
+use Rattle.plain_core.proofs.listing.Listing.clear.Goals as goal
+
+pub returns-clause-ready : goal.returns-clause-ready
+returns-clause-ready c =
+    let marks = c.requires.marks in
+    let order = c.requires.order in
+    let few = c.args.directory.now.few in
+    let long = c.fill.ensures.len in
+    let same = c.clear.ensures.capacity in
+    nothing_listed _ _ (apart_of c.args.directory.now)
+    (record { marks = omega (arith, c.args.self.now.marks.ok.0, c.fill.new.self.ok.0); order = omega arith })
+    c.clear.ensures.items _ (c.fill.ensures.items (λ y clone. clone))
