@@ -163,13 +163,6 @@ closure_flagged c sound aged marks old new f none m room s h last tell base o ha
       subst (IsFlagged c.origin new) x.3 (flag_sets c sound marks old new f (let size = f.size in omega (arith, room)) x.0 x.1 x.2 (m.marks_all.marked x.0 x.4)),
 )
 
--- the same closure, by equations
-pub closure_are : (origin : ℕ) (roots roots' words words' : List ℕ) (row row' : List Extent) (aged marks marks' : List Bool) → roots ≡ roots' → words ≡ words' → row ≡ row' → marks' ≡ marks
-    → MarksClosure origin roots words row aged marks → MarksClosure origin roots' words' row' aged marks'
-closure_are origin roots roots' words words' row row' aged marks marks' er ew eo em m =
-    subst (MarksClosure origin roots' words' row' aged) (sym em)
-    (subst (λ o. MarksClosure origin roots' words' o aged marks) eo (subst (λ w. MarksClosure origin roots' w row aged marks) ew (subst (λ r. MarksClosure origin r words row aged marks) er m)))
-
 -- with no flags it is what the roots lead to
 pub closure_reached : (origin : ℕ) (roots words : List ℕ) (row : List Extent) (marks : List Bool) → MarksClosure origin roots words row [] marks → MarksReached origin roots words row marks
 closure_reached origin roots words row marks m = subst (λ r. MarksReached origin r words row marks) (ap (λ b. roots ++ b) (no_flags origin row m.bases m.are) ∙ append-nil roots) m.marks_all

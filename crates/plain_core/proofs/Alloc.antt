@@ -280,8 +280,8 @@ cant_share c sound k d n base kind placement e is long bases room none from s h 
     })
 
 -- what may be put may be put into the core as it is seen
-pub fits_by : (c now : PlainContents) → c ≡ now → (row : List Extent) → row ≡ c.objects → (e : Extent) → IsInHeap c.origin c.pages e → IsFresh row e → MayBePut now e
-fits_by c now view row rows e inside fresh = subst (λ (x : PlainContents). MayBePut x e) view (record { in_heap = inside; fresh = subst (λ r. IsFresh r e) rows fresh })
+pub fits_by : (c now : PlainContents) → c ≡ now → (e : Extent) → IsInHeap c.origin c.pages e → IsFresh c.objects e → MayBePut now e
+fits_by c now view e inside fresh = subst (λ (x : PlainContents). MayBePut x e) view (record { in_heap = inside; fresh = fresh })
 
 -- a request that was granted by an object
 pub put_at : (c later : PlainContents) → IsLaidOut c → (k d n base : ℕ) (kind : Kind) (placement : Placement) (e : Extent) (m : Mutator) → HasMutator c.roots k m → placement_of c.roots.request_words n ≡ Some placement → e.kind ≡ kind → e.length ≡ length_of placement

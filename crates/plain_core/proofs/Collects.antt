@@ -183,11 +183,6 @@ lie_in c sound row long k d lt =
 pub all_lie : (c : PlainContents) → IsLaidOut c → All (LiesIn c.origin c.words) c.objects
 all_lie c sound = lie_in c sound c.words sound.words
 
--- the same marks, by equations
-pub marks_are : (origin : ℕ) (roots roots' words words' : List ℕ) (row row' : List Extent) (marks marks' : List Bool) → roots ≡ roots' → words ≡ words' → row ≡ row' → marks' ≡ marks → MarksReached origin roots words row marks → MarksReached origin roots' words' row' marks'
-marks_are origin roots roots' words words' row row' marks marks' er ew eo em m =
-    subst (MarksReached origin roots' words' row') (sym em) (subst (λ o. MarksReached origin roots' words' o marks) eo (subst (λ w. MarksReached origin roots' w row marks) ew (subst (λ r. MarksReached origin r words row marks) er m)))
-
 -- there is room for as many as before
 pub room_kept : (n : ℕ) (l l' : Listing) → HasListRoom n l → KeepsRoom l l' → HasListRoom n l'
 room_kept n l l' room kept = let marks = room.marks in let order = room.order in let same = kept.marks in let more = kept.order in record { marks = omega arith; order = omega arith }

@@ -66,12 +66,11 @@ pub record LeavesAlong (c : PlainContents) (rest : List Extent) (words : List �
   pub left : links ≡ filter (stays_with (holds_word rest) (has_base rest)) c.links
 
 -- the same by equations
-pub along_of : (c : PlainContents) (rest objects : List Extent) (row row' words : List ℕ) (links : List Link) → objects ≡ rest → row ≡ c.words → words ≡ row' → ClearsWords c.origin (holds_word objects) (has_base objects) c.links row row'
-    → links ≡ filter (stays_with (holds_word objects) (has_base objects)) c.links → LeavesAlong c rest words links
-along_of c rest objects row row' words links same old new clears stays = record {
-  cleared = subst (λ o. ClearsWords c.origin (holds_word o) (has_base o) c.links c.words words) same
-      (subst (λ ws. ClearsWords c.origin (holds_word objects) (has_base objects) c.links ws words) old (subst (ClearsWords c.origin (holds_word objects) (has_base objects) c.links row) (sym new) clears));
-  left = subst (λ o. links ≡ filter (stays_with (holds_word o) (has_base o)) c.links) same stays;
+pub along_of : (c : PlainContents) (rest : List Extent) (row row' words : List ℕ) (links : List Link) → row ≡ c.words → words ≡ row' → ClearsWords c.origin (holds_word rest) (has_base rest) c.links row row' → links ≡ filter (stays_with (holds_word rest) (has_base rest)) c.links
+    → LeavesAlong c rest words links
+along_of c rest row row' words links old new clears stays = record {
+  cleared = subst (λ ws. ClearsWords c.origin (holds_word rest) (has_base rest) c.links ws words) old (subst (ClearsWords c.origin (holds_word rest) (has_base rest) c.links row) (sym new) clears);
+  left = stays;
 }
 
 -- the bases of the objects that are gone, in any order

@@ -134,22 +134,19 @@ module _ (row : List Extent) where
   pub lists_take : (words : List ℕ) (a b c : Listing) (i d : ℕ) → i < length words → ListsAll row (take i words) a b → ListsAll row (get_or words i d ∷ []) b c → ListsAll row (take (i + 1) words) a c
   lists_take words a b c i d lt x y = subst (λ ws. ListsAll row ws a c) (sym (take_more words i d lt)) (lists_more (take i words) (get_or words i d ∷ []) a b c x y)
 
--- no bit of a row of false is set
-none_set : (n i : ℕ) → get_or (replicate n false) i false ≡ true → ⊥
-none_set n i is = true≢false (sym is ∙ ⊎_elim
-    (λ lt. get_or-replicate n i false false lt)
-    (λ past. get_or_past (replicate n false) i false (let size : length (replicate n false) ≡ n = length-replicate n false in omega arith))
-    (cases_lt i n))
+-- bits that are unset are unset past their end too
+pub none_set : (bits : List Bool) → ((k : ℕ) → k < length bits → get_or bits k false ≡ false) → (k : ℕ) → get_or bits k false ≡ false
+none_set bits unset k = ⊎_elim (λ lt. unset k lt) (λ past. get_or_past bits k false past) (cases_lt k (length bits))
 
 -- an empty list
-pub nothing_listed : (row : List Extent) (l : Listing) → AreApart row → HasListRoom (length row) l → l.order.items ≡ [] → (n : ℕ) → l.marks.items ≡ replicate n false → IsListing row l
-nothing_listed row l apart room none n clear = record {
+pub nothing_listed : (row : List Extent) (l : Listing) → AreApart row → HasListRoom (length row) l → l.order.items ≡ [] → ((k : ℕ) → k < length l.marks.items → get_or l.marks.items k false ≡ false) → IsListing row l
+nothing_listed row l apart room none clear = record {
   apart = apart;
   room = room;
   listed = subst (λ o. IsListOf (length row) o l.marks.items) (sym none) (record {
     below = λ i has. absurd (nothing_in i has);
     distinct = IsDistinct-from_count nat_eq_equiv [] refl;
     marked = λ i has. absurd (nothing_in i has);
-    only = λ i is. absurd (none_set n i (ap (λ ms. get_or ms i false) (sym clear) ∙ is));
+    only = λ i is. absurd (true≢false (sym is ∙ none_set l.marks.items clear i));
   });
 }

@@ -154,10 +154,8 @@ flagged_more origin row flags done e b marks short there set_is unset_is before 
     (cases_eq i done)
 
 -- the same, by equations
-pub left_are : (row row' : List Extent) (marks marks' stays stays' : List Bool) (r : Option Wrong) → row ≡ row' → marks ≡ marks' → stays ≡ stays' → TellsLowest (IsBelow (IsLeftAt row marks stays) (length row)) r
-    → TellsLowest (IsBelow (IsLeftAt row' marks' stays') (length row')) r
-left_are row row' marks marks' stays stays' r eo em es low =
-    subst (λ x. TellsLowest (IsBelow (IsLeftAt row' marks' x) (length row')) r) es (subst (λ m. TellsLowest (IsBelow (IsLeftAt row' m stays) (length row')) r) em (subst (λ o. TellsLowest (IsBelow (IsLeftAt o marks stays) (length o)) r) eo low))
+pub left_are : (row : List Extent) (marks marks' stays stays' : List Bool) (r : Option Wrong) → marks ≡ marks' → stays ≡ stays' → TellsLowest (IsBelow (IsLeftAt row marks stays) (length row)) r → TellsLowest (IsBelow (IsLeftAt row marks' stays') (length row)) r
+left_are row marks marks' stays stays' r em es low = subst (λ x. TellsLowest (IsBelow (IsLeftAt row marks' x) (length row)) r) es (subst (λ m. TellsLowest (IsBelow (IsLeftAt row m stays) (length row)) r) em low)
 
 -- What is wrong in the row is what is wrong in a heap that the core stands for.
 module _ (c : PlainContents) (sound : IsLaidOut c) (marks : List Bool) (m : MarksReached c.origin (root_words_of c.roots) c.words c.objects marks) (bases : List ℕ) (stays : List Bool) (unset : AreUnset c.objects bases stays) where

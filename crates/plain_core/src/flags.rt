@@ -1,6 +1,6 @@
 //! Flags of objects, by where the words at their bases stand in the row of all words: so no flag moves when an object does in
 //! the row of objects, and one that is left by an object that went stands where the next one at that base is.
-ghost use Rattle.std.specs.Prelude.{◌≡◌, ◌<◌, ◌≤◌, All, IsTrue, false, true, ℕ, length, slice_index_or, slice_set};
+ghost use Rattle.std.specs.Prelude.{◌≡◌, ◌≤◌, All, IsTrue, false, length, slice_set};
 ghost use Rattle.links.specs.Leaving.{word_index};
 ghost use Rattle.plain_core.specs.Standing.{LiesIn};
 ghost use Rattle.plain_core.specs.Reached.{links_of};
@@ -11,26 +11,6 @@ use crate::directory::Directory;
 use crate::extent::Extent;
 use crate::listing::links;
 use crate::owners::word_index;
-
-// Unsets all flags.
-pub(crate) fn unset_all(flags: &mut [bool])
-    ensures none { (k : ℕ) → slice_index_or flags.new k false ≡ false }
-    ensures size { length flags.new ≡ length flags.old }
-{
-    for index in 0..flags.len() {
-        flags[index] = false;
-    }
-}
-
-// Sets all flags.
-pub(crate) fn set_all(flags: &mut [bool])
-    ensures all { (k : ℕ) → k < length flags.new → slice_index_or flags.new k false ≡ true }
-    ensures size { length flags.new ≡ length flags.old }
-{
-    for index in 0..flags.len() {
-        flags[index] = true;
-    }
-}
 
 // Whether all words are 0.
 fn are_zeros(words: &[u64]) -> bool

@@ -1,6 +1,5 @@
-//! A heap core that is plain: one row of words, one list of objects, a row that says of each word which object it is of, and
-//! nothing of blocks, marks or dirty pages: an object is found by its words, without a search. It takes memory when it is made and
-//! never again, and has no thread, lock or atomic word.
+//! A heap core that is plain: one row of words, a directory that says which object lies where, and nothing of blocks, marks or
+//! dirty pages. It takes memory when it is made and never again, and has no thread, lock or atomic word.
 //!
 //! docs/CRATES.md tells the rest: what is proved.
 #![tactic(auto)]

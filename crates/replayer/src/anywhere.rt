@@ -7,6 +7,7 @@ use crate::flags::{flag_place, renew};
 use crate::hint::Hint;
 use crate::replayer::Replayer;
 use heap_spec::{Call, Event, Reply};
+use plain_core::Extent;
 use words::{Kind, Reg, Slot};
 
 impl Replayer {
@@ -33,10 +34,8 @@ impl Replayer {
             return false;
         }
         self.core.objects_are_apart();
-        if !self
-            .core
-            .alloc_anywhere(slot, into, words, kind, base, length)
-        {
+        let object = Extent { base, kind, length };
+        if !self.core.alloc_anywhere(slot, into, words, object) {
             return false;
         }
         self.core.objects_are_apart();

@@ -3,7 +3,6 @@ ghost use Rattle.std.specs.Prelude.{◌≡◌, length};
 ghost use Rattle.plain_core.specs.Aging.{FlagsAll, FlagUnset, FlagsClosure};
 
 use super::Core;
-use crate::flags::{set_all, unset_all};
 
 impl Core {
     /// Sets the flags of all objects.
@@ -12,7 +11,7 @@ impl Core {
         ensures size { length flags.new ≡ length flags.old }
     {
         self.laws();
-        set_all(flags);
+        flags.fill(true);
     }
 
     /// Unsets the flag of the object with this base.
@@ -34,7 +33,7 @@ impl Core {
     {
         self.reach
             .list(&self.roots, aged, &self.words, &self.directory);
-        unset_all(flags);
+        flags.fill(false);
         self.directory.flag_marked(&self.reach.listing.marks, flags);
     }
 }

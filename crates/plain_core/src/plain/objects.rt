@@ -107,29 +107,19 @@ impl Core {
         true
     }
 
-    /// Allocates a zeroed object of `length` words at this base, if the request is granted so where objects may lie anywhere.
-    /// Else nothing changes.
-    pub fn alloc_anywhere(
-        &mut self,
-        slot: Slot,
-        into: Reg,
-        words: u64,
-        kind: Kind,
-        base: u64,
-        length: u64,
-    ) -> bool
-        ensures yes { IsTrue result → IsAllocatedAnywhere self.old slot into words kind base length self.new }
-        ensures no { result ≡ false → CantAllocateAnywhere self.old slot into words kind base length }
+    /// Allocates this object, zeroed, if the request is granted so where objects may lie anywhere. Else nothing changes.
+    pub fn alloc_anywhere(&mut self, slot: Slot, into: Reg, words: u64, object: Extent) -> bool
+        ensures yes { IsTrue result → IsAllocatedAnywhere self.old slot into words object.kind object.base object.length self.new }
+        ensures no { result ≡ false → CantAllocateAnywhere self.old slot into words object.kind object.base object.length }
         ensures same { result ≡ false → self.new ≡ self.old }
         ensures origin { self.new.origin ≡ self.old.origin }
     {
         let Some(_) = self.mutator(slot) else {
             return false;
         };
-        if length < words {
+        if object.length < words {
             return false;
         }
-        let object = Extent { base, kind, length };
         if !self.directory.may_be_put(self.pages, &object) {
             return false;
         }

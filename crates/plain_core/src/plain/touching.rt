@@ -8,7 +8,7 @@ ghost use Rattle.plain_core.specs.Standing.{StandsFor};
 ghost use Rattle.plain_core.specs.Flags.{FlagsReached, FlagsLed, FlagsBrought, ForgetsUnflagged, CantForget};
 
 use super::Core;
-use crate::flags::{has_no_links, unset_all};
+use crate::flags::has_no_links;
 use heap_spec::Call;
 use words::{Reg, Slot};
 
@@ -33,7 +33,7 @@ impl Core {
     {
         self.reach
             .list(&self.roots, &[], &self.words, &self.directory);
-        unset_all(flags);
+        flags.fill(false);
         self.directory.flag_marked(&self.reach.listing.marks, flags);
     }
 

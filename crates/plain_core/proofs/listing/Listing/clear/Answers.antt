@@ -1,4 +1,4 @@
-use Rattle.std.proofs.Common.{arith}
+use Rattle.std.proofs.Common.{false, refl, arith}
 use Rattle.plain_core.proofs.InDirectory.{apart_of}
 use Rattle.plain_core.proofs.Lists.{nothing_listed}
 use Rattle.plain_core.proofs.listing.Listing.clear.Goals as goal
@@ -12,4 +12,4 @@ returns-clause-ready c =
     let same = c.clear.ensures.capacity in
     nothing_listed _ _ (apart_of c.args.directory.now)
     (record { marks = omega (arith, c.args.self.now.marks.ok.0, c.fill.new.self.ok.0); order = omega arith })
-    c.clear.ensures.items _ (c.fill.ensures.items (λ y clone. clone))
+    c.clear.ensures.items (λ k lt. c.fill.ensures.clones k false (omega (arith, c.args.self.now.marks.ok.0, c.fill.new.self.ok.0)) refl)

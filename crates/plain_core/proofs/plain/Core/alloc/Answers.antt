@@ -32,7 +32,7 @@ returns-then-not-may_be_put-clause-step c soundly =
     absurd (c.may_be_put.ensures.no c.if-not-may_be_put.true fits.in_heap fits.fresh)
 
 pub put-requires-clause-fits : goal.put-requires-clause-fits
-put-requires-clause-fits c = let yes = c.may_be_put.ensures.yes c.if-not-may_be_put.false in fits_by _ _ c.self.view_is _ refl _ yes.0 yes.1
+put-requires-clause-fits c = let yes = c.may_be_put.ensures.yes c.if-not-may_be_put.false in fits_by _ _ c.self.view_is _ yes.0 yes.1
 
 pub returns-clause-step : goal.returns-clause-step
 returns-clause-step c _ =

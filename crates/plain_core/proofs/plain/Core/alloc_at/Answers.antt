@@ -23,7 +23,7 @@ returns-then-not-may_be_put-clause-no c refused =
     (λ fits. c.may_be_put.ensures.no c.if-not-may_be_put.true fits.in_heap fits.fresh))
 
 pub put-requires-clause-fits : goal.put-requires-clause-fits
-put-requires-clause-fits c = let yes = c.may_be_put.ensures.yes c.if-not-may_be_put.false in fits_by _ _ c.self.view_is _ refl _ yes.0 yes.1
+put-requires-clause-fits c = let yes = c.may_be_put.ensures.yes c.if-not-may_be_put.false in fits_by _ _ c.self.view_is _ yes.0 yes.1
 
 pub returns-clause-yes : goal.returns-clause-yes
 returns-clause-yes c done =

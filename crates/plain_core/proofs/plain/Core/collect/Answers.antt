@@ -1,6 +1,6 @@
 use Rattle.std.proofs.Common.{◌≡◌, length, sym, ap, ◌∙◌, refl}
 use Rattle.std.proofs.lemmas.List.{with_items_is}
-use Rattle.plain_core.proofs.Collects.{collects, marks_are, marks_room, room_kept}
+use Rattle.plain_core.proofs.Collects.{collects, marks_room, room_kept}
 use Rattle.plain_core.proofs.Free.{rest_sound, along_of}
 use Rattle.plain_core.proofs.plain.Core.collect.Goals as goal
 
@@ -24,7 +24,7 @@ invariant_of-self c =
 pub returns-clause-collected : goal.returns-clause-collected
 returns-clause-collected c = rw (← c.self.view_is, c.keep_flagged-count.ensures.origin)
     (collects _ c.self.invariant.0 c.deref-2.result.now
-    (marks_are _ _ _ _ _ _ _ _ _ refl c.deref.ensures.value refl c.deref-2.ensures.value (c.list.ensures.reached refl))
+    (rw (c.deref.ensures.value, ← c.deref-2.ensures.value) at c.list.ensures.reached refl)
     _ _ c.keep_flagged-count.ensures.parts _ _
-    (along_of _ _ _ _ _ _ _ refl c.deref_mut.ensures.value (with_items_is c.self.inside.words c.take_along.new.words (c.take_along.auto.words ∙ ap length c.deref_mut.ensures.value ∙ sym c.self.inside.words.ok.0))
+    (along_of _ _ _ _ _ _ c.deref_mut.ensures.value (with_items_is c.self.inside.words c.take_along.new.words (c.take_along.auto.words ∙ ap length c.deref_mut.ensures.value ∙ sym c.self.inside.words.ok.0))
     (rw c.keep_flagged-count.ensures.origin at c.take_along.ensures.words) c.take_along.ensures.links))

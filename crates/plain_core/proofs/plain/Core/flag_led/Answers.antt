@@ -1,7 +1,7 @@
 use Rattle.std.proofs.Common.{refl}
 use Rattle.std.proofs.lemmas.List.Elements.{All-contains}
 use Rattle.plain_core.specs.Standing.{LiesIn}
-use Rattle.plain_core.proofs.Collects.{all_lie, marks_are, marks_room}
+use Rattle.plain_core.proofs.Collects.{all_lie, marks_room}
 use Rattle.plain_core.proofs.Flagging.{led_flagged, led_nothing, led_before, led_itself}
 use Rattle.plain_core.proofs.plain.Core.flag_led.Goals as goal
 
@@ -32,4 +32,4 @@ flag_marked-requires c = rw c.deref-3.ensures.value (marks_room c.self.inside.di
 pub returns-clause-flags : goal.returns-clause-flags
 returns-clause-flags c = rw (← c.self.view_is)
     (led_flagged _ c.self.invariant.0 c.deref-3.result.now _ _ c.flag_marked.ensures _
-    (marks_are _ _ _ _ _ _ _ _ _ refl c.deref-2.ensures.value refl c.deref-3.ensures.value (c.list_closure.ensures.reached refl)))
+    (rw (c.deref-2.ensures.value, ← c.deref-3.ensures.value) at c.list_closure.ensures.reached refl))

@@ -47,7 +47,7 @@ pub returns-clause-step : goal.returns-clause-step
 returns-clause-step c =
     rw (← c.self.view_is, c.remove-freed.ensures.origin)
     (removes _ c.self.invariant.0 _ _ _ c.remove-freed.ensures.removed c.remove-freed.ensures.objects _ _
-    (along_of _ _ _ _ _ _ _ refl c.deref_mut.ensures.value (with_items_is c.self.inside.words c.take_along.new.words (c.take_along.auto.words ∙ ap length c.deref_mut.ensures.value ∙ sym c.self.inside.words.ok.0))
+    (along_of _ _ _ _ _ _ c.deref_mut.ensures.value (with_items_is c.self.inside.words c.take_along.new.words (c.take_along.auto.words ∙ ap length c.deref_mut.ensures.value ∙ sym c.self.inside.words.ok.0))
     (rw c.remove-freed.ensures.origin at c.take_along.ensures.words) c.take_along.ensures.links)
     _ _ _ c.in_ok-mutator.ensures.ok
     (ap (λ (y : Extent). y.base) (same_Some _ _ (sym c.remove-freed.ensures.removed ∙ c.object.ensures)) ∙ c.if-object-address.false ∙ c.word-address.ensures))

@@ -1,6 +1,6 @@
 use Rattle.std.proofs.Common.{refl}
 use Rattle.std.specs.Prelude.{Some, None}
-use Rattle.plain_core.proofs.Collects.{in_row, marks_are}
+use Rattle.plain_core.proofs.Collects.{in_row}
 use Rattle.plain_core.proofs.Keeping.{kept_in_list}
 use Rattle.plain_core.proofs.plain.Core.keeping_word.Goals as goal
 
@@ -17,7 +17,7 @@ pub returns-in_default-clause-keeper : goal.returns-in_default-clause-keeper
 returns-in_default-clause-keeper c =
     rw (← c.self.view_is)
     (kept_in_list _ c.self.invariant.0 c.args.own c.args.object (rw (← c.self.view_is) at c.requires.there) c.list.new.self.listing.order.items c.list.new.self.listing.marks.items c.list.ensures.listed.listed
-    (marks_are _ _ _ _ _ _ _ _ _ refl c.deref.ensures.value refl refl (c.list.ensures.reached refl))
+    (rw c.deref.ensures.value at c.list.ensures.reached refl)
     (rw (← c.self.view_is) at c.requires.rootless)
     None tt
     (rw (c.deref-2.ensures.value, c.deref-3.ensures.value) at c.in_default.ensures.none))
@@ -27,6 +27,6 @@ returns-clause-keeper c =
     let found = rw (c.deref-2.ensures.value, c.deref-3.ensures.value) at c.in-Some.ensures.some in
     rw (← c.self.view_is)
     (kept_in_list _ c.self.invariant.0 c.args.own c.args.object (rw (← c.self.view_is) at c.requires.there) c.list.new.self.listing.order.items c.list.new.self.listing.marks.items c.list.ensures.listed.listed
-    (marks_are _ _ _ _ _ _ _ _ _ refl c.deref.ensures.value refl refl (c.list.ensures.reached refl))
+    (rw c.deref.ensures.value at c.list.ensures.reached refl)
     (rw (← c.self.view_is) at c.requires.rootless)
     (Some c.in-Some.keeper) (found.0, in_row _ _ found.0 found.1, found.2) tt)

@@ -1,6 +1,5 @@
 use Rattle.std.proofs.Common.{refl}
 use Rattle.std.proofs.lemmas.Option.{slice_get_within}
-use Rattle.plain_core.proofs.Collects.{marks_are}
 use Rattle.plain_core.proofs.Pathing.{unlisted, told_path}
 use Rattle.plain_core.proofs.plain.Core.path_to.Goals as goal
 
@@ -11,7 +10,7 @@ pub returns-in_default-place_of-clause-path : goal.returns-in_default-place_of-c
 returns-in_default-place_of-clause-path c =
     rw (← c.self.view_is)
     (unlisted _ c.self.invariant.0 c.in-Some.own c.args.base c.in-Some.ensures.some c.list.new.self.listing.order.items c.list.new.self.listing.marks.items c.list.ensures.listed.listed
-    (marks_are _ _ _ _ _ _ _ _ _ refl c.deref.ensures.value refl refl (c.list.ensures.reached refl)) (rw c.deref-2.ensures.value at c.in_default-place_of.ensures.none))
+    (rw c.deref.ensures.value at c.list.ensures.reached refl) (rw c.deref-2.ensures.value at c.in_default-place_of.ensures.none))
 
 pub walk_back-requires-clause-within : goal.walk_back-requires-clause-within
 walk_back-requires-clause-within c = slice_get_within _ _ _ (rw c.deref-2.ensures.value at c.in-Some-place_of.ensures.some)
@@ -30,5 +29,5 @@ returns-clause-path c =
     let leads = rw c.deref-3.ensures.value at c.in_ok-walk_back.ensures in
     rw (← c.self.view_is)
     (told_path _ c.self.invariant.0 c.in-Some.own c.args.base c.in-Some.ensures.some c.list.new.self.listing.order.items c.list.new.self.listing.marks.items c.list.ensures.listed.listed
-    (marks_are _ _ _ _ _ _ _ _ _ refl c.deref.ensures.value refl refl (c.list.ensures.reached refl))
+    (rw c.deref.ensures.value at c.list.ensures.reached refl)
     c.in-Some-place_of.place place _ (rw c.reverse.ensures.items (leads c.in-Some.own place)))

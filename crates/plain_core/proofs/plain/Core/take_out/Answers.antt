@@ -30,5 +30,5 @@ pub returns-clause-taken : goal.returns-clause-taken
 returns-clause-taken c = rw (← c.self.view_is, c.keep_flagged-gone.ensures.origin)
     (takes_out _ c.self.invariant.0 c.args.bases.now c.unset_named.new.flags.items c.unset_named.ensures.unset _ _
     (subst (λ f. Parts c.self.inside.directory.objects.items f c.keep_flagged-gone.new.self.objects.items c.keep_flagged-gone.result) c.deref.ensures.value c.keep_flagged-gone.ensures.parts) _ _
-    (along_of _ _ _ _ _ _ _ refl c.deref_mut.ensures.value (with_items_is c.self.inside.words c.take_along.new.words (c.take_along.auto.words ∙ ap length c.deref_mut.ensures.value ∙ sym c.self.inside.words.ok.0))
+    (along_of _ _ _ _ _ _ c.deref_mut.ensures.value (with_items_is c.self.inside.words c.take_along.new.words (c.take_along.auto.words ∙ ap length c.deref_mut.ensures.value ∙ sym c.self.inside.words.ok.0))
     (rw c.keep_flagged-gone.ensures.origin at c.take_along.ensures.words) c.take_along.ensures.links))

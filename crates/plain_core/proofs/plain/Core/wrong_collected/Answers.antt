@@ -1,5 +1,5 @@
 use Rattle.std.proofs.Common.{refl, sym, ◌∙◌, arith}
-use Rattle.plain_core.proofs.Collects.{marks_are, marks_room}
+use Rattle.plain_core.proofs.Collects.{marks_room}
 use Rattle.plain_core.proofs.Forgets.{all_set_of}
 use Rattle.plain_core.proofs.Lowest.{left_are, uncollected}
 use Rattle.plain_core.proofs.plain.Core.wrong_collected.Goals as goal
@@ -17,7 +17,7 @@ pub returns-clause-wrong : goal.returns-clause-wrong
 returns-clause-wrong c =
     rw (← c.self.view_is)
     (uncollected _ c.self.invariant.0 c.deref-2.result.now
-    (marks_are _ _ _ _ _ _ _ _ _ refl c.deref.ensures.value refl c.deref-2.ensures.value (c.list.ensures.reached refl))
+    (rw (c.deref.ensures.value, ← c.deref-2.ensures.value) at c.list.ensures.reached refl)
     c.args.bases.now c.lowest_named-named.new.stays.items c.lowest_named-named.ensures.unset _ _ _ c.lowest_named-named.ensures.wrong
-    (left_are _ _ _ _ _ _ _ refl (c.deref-3.ensures.value ∙ sym c.deref-2.ensures.value) c.deref-4.ensures.value c.lowest_left-left.ensures)
+    (left_are _ _ _ _ _ _ (c.deref-3.ensures.value ∙ sym c.deref-2.ensures.value) c.deref-4.ensures.value c.lowest_left-left.ensures)
     c.lower.ensures)
