@@ -18,7 +18,7 @@ use Rattle.plain_core.specs.Flags.{IsFlagged, FlagsMarked}
 use Rattle.plain_core.specs.Listing.{IsListing}
 use Rattle.plain_core.specs.Reached.{PointsIntoNth, IsReachedNth, by_root, by_link, MarksReached}
 use Rattle.plain_core.specs.Aging.{TellOld, FlagsAll, FlagUnset, FlagsClosure, AreFlaggedBases, ListsFlagged, MarksClosure}
-use Rattle.plain_core.specs.Discovery.{IsDiscovered, DiscoversClosure}
+use Rattle.plain_core.specs.Discovery.{IsDiscovered}
 use Rattle.plain_core.proofs.Objects.{in_heap, extent_of, reads_base}
 use Rattle.plain_core.proofs.Lists.{nothing_in, the_one, lists_none, lists_more}
 use Rattle.plain_core.proofs.Collects.{roots_are, in_row, at_place, read_of, read_in, reads_at, points_at}
@@ -166,6 +166,12 @@ closure_flagged c sound aged marks old new f none m room s h last tell base o ha
 -- with no flags it is what the roots lead to
 pub closure_reached : (origin : ℕ) (roots words : List ℕ) (row : List Extent) (marks : List Bool) → MarksClosure origin roots words row [] marks → MarksReached origin roots words row marks
 closure_reached origin roots words row marks m = subst (λ r. MarksReached origin r words row marks) (ap (λ b. roots ++ b) (no_flags origin row m.bases m.are) ∙ append-nil roots) m.marks_all
+
+-- A root word, or an object with its flag, leads to each object on the list, or else a word of an object that is listed before it.
+pub record DiscoversClosure (origin : ℕ) (roots words : List ℕ) (row : List Extent) (flags : List Bool) (order : List ℕ) : Type 0 where
+  pub bases : List ℕ
+  pub are : AreFlaggedBases origin row flags bases
+  pub discovered : IsDiscovered origin (roots ++ bases) words row order
 
 pub discovered_reached : (origin : ℕ) (roots words : List ℕ) (row : List Extent) (order : List ℕ) → DiscoversClosure origin roots words row [] order → IsDiscovered origin roots words row order
 discovered_reached origin roots words row order m = subst (λ r. IsDiscovered origin r words row order) (ap (λ b. roots ++ b) (no_flags origin row m.bases m.are) ∙ append-nil roots) m.discovered

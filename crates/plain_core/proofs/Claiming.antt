@@ -7,8 +7,12 @@ use Rattle.std.proofs.lemmas.Option.{same_Some, slice_get_within, get_or_from_sl
 use Rattle.std.proofs.lemmas.List.Elements.{All-contains, Contains-push, Contains-push_cases, Contains-append_left}
 use Rattle.std.proofs.lemmas.Map.Keys.{IsDistinct-head, IsDistinct-tail}
 use Rattle.plain_core.specs.declared.extent.Extent.{Extent}
-use Rattle.plain_core.specs.Claims.{HasOneEach, AreUnset}
+use Rattle.plain_core.specs.Claims.{AreUnset}
 use Rattle.plain_core.proofs.Free.{differ}
+
+-- No base is that of two objects.
+pub record HasOneEach (row : List Extent) : Type 0 where
+  pub one : (i j : ℕ) (e f : Extent) → slice_get row i ≡ Some e → slice_get row j ≡ Some f → e.base ≡ f.base → i ≡ j
 
 -- a number of a list with no two equal is not among those before it
 none_later : (q : ℕ) (xs : List ℕ) → AllByRecursion (λ y. eqb q y ≡ false) xs → (k : ℕ) → k < length xs → get_or xs k q ≢ q

@@ -27,13 +27,13 @@ use Rattle.plain_core.specs.Standing.{StandsFor}
 use Rattle.plain_core.specs.Collections.{TakesBases, CantTake}
 use Rattle.plain_core.specs.Flags.{ForgetsUnflagged, CantForget}
 use Rattle.plain_core.specs.Wrongs.{IsWrong, TellsUncollected, TellsUnforgotten}
-use Rattle.plain_core.specs.Claims.{HasOneEach, AreUnset}
+use Rattle.plain_core.specs.Claims.{AreUnset}
 use Rattle.plain_core.specs.Reached.{MarksReached}
 use Rattle.plain_core.specs.Parting.{Parts}
 use Rattle.plain_core.proofs.Objects.{reads_base}
 use Rattle.plain_core.proofs.Free.{AreBases, LeavesAlong, rest_stands, stays_in}
 use Rattle.plain_core.proofs.Lists.{nothing_in}
-use Rattle.plain_core.proofs.Claiming.{none_before}
+use Rattle.plain_core.proofs.Claiming.{HasOneEach, none_before}
 use Rattle.plain_core.proofs.Collects.{in_row, sound_apart, reached_out}
 
 -- no base is that of two objects of a sound core

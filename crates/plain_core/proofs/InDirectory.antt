@@ -11,7 +11,7 @@ use Rattle.words.specs.declared.limits.TheConstants.{WORD_BYTES}
 use Rattle.heap_spec.specs.Layout.{PointsInto}
 use Rattle.plain_core.specs.declared.extent.Extent.{Extent}
 use Rattle.plain_core.specs.declared.directory.Directory.{Directory}
-use Rattle.plain_core.specs.Claims.{HasOneEach}
+use Rattle.plain_core.proofs.Claiming.{HasOneEach}
 use Rattle.plain_core.specs.Reached.{PointsIntoNth, AreApart}
 use Rattle.plain_core.specs.Parting.{Parts}
 use Rattle.plain_core.specs.Standing.{LiesIn}

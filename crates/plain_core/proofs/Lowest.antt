@@ -13,7 +13,8 @@ use Rattle.plain_core.specs.declared.wrongs.Wrong.TheVariants.{IsMissing, Stands
 use Rattle.plain_core.specs.PlainContents.{PlainContents, IsLaidOut}
 use Rattle.plain_core.specs.Standing.{StandsFor}
 use Rattle.plain_core.specs.Reached.{MarksReached}
-use Rattle.plain_core.specs.Claims.{HasOneEach, AreUnset}
+use Rattle.plain_core.specs.Claims.{AreUnset}
+use Rattle.plain_core.proofs.Claiming.{HasOneEach}
 use Rattle.plain_core.specs.Flags.{IsFlagged}
 use Rattle.plain_core.specs.Wrongs.{base_of, IsLowest, TellsLowest, IsWrong, TellsUncollected, TellsUnforgotten, IsLowerThan, IsLowerOf, IsBelow, IsNamedAt, IsLeftAt, MarksFlagged}
 use Rattle.plain_core.proofs.Objects.{extent_of}

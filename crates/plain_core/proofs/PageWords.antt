@@ -8,7 +8,7 @@ use Rattle.words.specs.Layout.{page_start}
 use Rattle.heap_spec.specs.Layout.{PointsInto, LiesOn}
 use Rattle.plain_core.specs.declared.extent.Extent.{Extent}
 use Rattle.plain_core.specs.Owners.{AreOwners}
-use Rattle.plain_core.specs.Places.{word_start, AreCutWords}
+use Rattle.plain_core.specs.Places.{word_start}
 use Rattle.plain_core.proofs.Owning.{one_there}
 
 word_on : (page : ℕ) (e : Extent) → e.base % WORD_BYTES ≡ 0 → 0 < e.length → LiesOn e.base e.length page → (g : ℕ) × (g < PAGE_WORDS) × PointsInto (word_start page g) e.base e.length
@@ -32,18 +32,19 @@ module _ (row : List Extent) (some : All (λ e. 0 < e.length) row) (evens : All 
   pub not_on : (g : ℕ) → g < PAGE_WORDS → (All (λ e. PointsInto (word_start page g) e.base e.length → P e) row → ⊥) → All (λ e. LiesOn e.base e.length page → P e) row → ⊥
   not_on g small not so = not (λ k d lt reads. so k d lt (on_word page g (get_or row k d) small reads))
 
--- the words of one object from one of them on
-pub cut_more : (origin : ℕ) (row : List Extent) (owners : List ℕ) → AreOwners origin row owners → (page word length more : ℕ) (kind : Kind) (i : ℕ) (e f : Extent) → slice_get row i ≡ Some e → PointsInto (word_start page word) e.base e.length → f ≡ e
-    → (f.length ≡ length) × (f.kind ≡ kind) → more ≡ f.length - (word_start page word - f.base) / WORD_BYTES → (word < word + more) × AreCutWords row page length kind word (word + more)
-cut_more origin row owners own page word length more kind i e f at reads same agrees is = (omega (arith, size, reads.0, reads.1), each)
-  where
-    size : more ≡ e.length - (word_start page word - e.base) / WORD_BYTES
-    size = subst (λ (x : Extent). more ≡ x.length - (word_start page word - x.base) / WORD_BYTES) same is
+-- from one word of the page up to another, each object that has one has this length and this kind
+abbrev pub AreCutWords : List Extent → ℕ → ℕ → Kind → ℕ → ℕ → Type 0
+AreCutWords row page length kind from to = (g : ℕ) → from ≤ g → g < to → All (λ e. PointsInto (word_start page g) e.base e.length → (e.length ≡ length) × (e.kind ≡ kind)) row
 
+-- the words of one object from one of them on
+pub cut_more : (origin : ℕ) (row : List Extent) (owners : List ℕ) → AreOwners origin row owners → (page word length more : ℕ) (kind : Kind) (i : ℕ) (e : Extent) → slice_get row i ≡ Some e → PointsInto (word_start page word) e.base e.length
+    → (e.length ≡ length) × (e.kind ≡ kind) → more ≡ e.length - (word_start page word - e.base) / WORD_BYTES → (word < word + more) × AreCutWords row page length kind word (word + more)
+cut_more origin row owners own page word length more kind i e at reads agrees is = (omega (arith, is, reads.0, reads.1), each)
+  where
     each : AreCutWords row page length kind word (word + more)
     each g from until k d lt there =
-        let mine : PointsInto (word_start page g) e.base e.length = (omega (arith, from, reads.0), omega (arith, size, from, until, reads.0, reads.1)) in
-        subst (λ (x : Extent). (x.length ≡ length) × (x.kind ≡ kind)) (same ∙ one_there origin row owners own (word_start page g) i e at mine k d lt there) agrees
+        let mine : PointsInto (word_start page g) e.base e.length = (omega (arith, from, reads.0), omega (arith, is, from, until, reads.0, reads.1)) in
+        subst (λ (x : Extent). (x.length ≡ length) × (x.kind ≡ kind)) (one_there origin row owners own (word_start page g) i e at mine k d lt there) agrees
 
 -- a word of no object
 pub cut_one : (row : List Extent) (page word length next : ℕ) (kind : Kind) → All (λ e. PointsInto (word_start page word) e.base e.length → ⊥) row → next ≡ word + 1 → AreCutWords row page length kind word next

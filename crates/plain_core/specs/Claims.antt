@@ -2,10 +2,6 @@
 use Rattle.std.specs.Prelude.{◌≡◌, ℕ, ◌≤◌, Bool, false, Some, List, length, Contains, slice_get, slice_index_or}
 use Rattle.plain_core.specs.declared.extent.Extent.{Extent}
 
--- No base is that of two objects.
-pub record HasOneEach (row : List Extent) : Type 0 where
-  pub one : (i j : ℕ) (e f : Extent) → slice_get row i ≡ Some e → slice_get row j ≡ Some f → e.base ≡ f.base → i ≡ j
-
 -- The flags of the objects with these bases are unset, and all others are set.
 pub record AreUnset (row : List Extent) (bases : List ℕ) (flags : List Bool) : Type 0 where
   pub size : length row ≤ length flags

@@ -1,8 +1,7 @@
 -- In which order objects are listed.
-use Rattle.std.specs.Prelude.{◌≡◌, ◌<◌, ℕ, Bool, Some, List, ◌++◌, Contains, slice_get}
+use Rattle.std.specs.Prelude.{◌≡◌, ◌<◌, ℕ, Some, List, Contains, slice_get}
 use Rattle.plain_core.specs.declared.extent.Extent.{Extent}
 use Rattle.plain_core.specs.Reached.{PointsIntoNth, links_of}
-use Rattle.plain_core.specs.Aging.{AreFlaggedBases}
 
 -- What leads to the object at one place of the row: a root word, or a word of an object that is listed before a place of the list.
 pub data IsLedTo (origin : ℕ) (roots words : List ℕ) (row : List Extent) (order : List ℕ) (place i : ℕ) : Type 0 where
@@ -12,9 +11,3 @@ pub data IsLedTo (origin : ℕ) (roots words : List ℕ) (row : List Extent) (or
 -- A root word leads to each object on the list, or else a word of an object that is listed before it.
 pub record IsDiscovered (origin : ℕ) (roots words : List ℕ) (row : List Extent) (order : List ℕ) : Type 0 where
   pub led : (place i : ℕ) → slice_get order place ≡ Some i → IsLedTo origin roots words row order place i
-
--- The same where the objects with flags are listed too.
-pub record DiscoversClosure (origin : ℕ) (roots words : List ℕ) (row : List Extent) (flags : List Bool) (order : List ℕ) : Type 0 where
-  pub bases : List ℕ
-  pub are : AreFlaggedBases origin row flags bases
-  pub discovered : IsDiscovered origin (roots ++ bases) words row order

@@ -20,10 +20,6 @@ IsFreePage row page = All (λ e. LiesOn e.base e.length page → ⊥) row
 abbrev pub IsCutPage : List Extent → ℕ → ℕ → Kind → Type 0
 IsCutPage row page length kind = All (λ e. LiesOn e.base e.length page → (e.length ≡ length) × (e.kind ≡ kind)) row
 
--- from one word of the page up to another, each object that has one has this length and this kind
-abbrev pub AreCutWords : List Extent → ℕ → ℕ → Kind → ℕ → ℕ → Type 0
-AreCutWords row page length kind from to = (g : ℕ) → from ≤ g → g < to → All (λ e. PointsInto (word_start page g) e.base e.length → (e.length ≡ length) × (e.kind ≡ kind)) row
-
 -- no object has this base
 abbrev pub IsNoBase : List Extent → ℕ → Type 0
 IsNoBase row a = All (λ e. e.base ≡ a → ⊥) row

@@ -1,9 +1,8 @@
 //! What leaves takes its links along: the links to it are gone, and their words are 0 where their holder stays; and the links
 //! whose words lie in it are gone.
-ghost use Rattle.std.specs.Prelude.{◌≡◌, ◌≤◌, [], None, Some, filter, if◌then◌else◌, length, slice_index};
+ghost use Rattle.std.specs.Prelude.{◌≡◌, ◌≤◌, [], filter, length};
 ghost use Rattle.words.specs.declared.limits.TheConstants.{MAX_LINKS};
-ghost use Rattle.links.specs.Rows.{IsAlignedRow};
-ghost use Rattle.links.specs.Leaving.{ClearsWords, stays_with, word_index as word_position};
+ghost use Rattle.links.specs.Leaving.{ClearsWords, stays_with};
 ghost use Rattle.plain_core.specs.Along.{ClearsWord, holds_word, has_base};
 
 use crate::directory::Directory;
@@ -13,18 +12,6 @@ use links::{Link, Links};
 use words::limits::MAX_LINKS;
 
 const MOST: usize = MAX_LINKS as usize;
-
-/// The word at an address, if one of the objects has it.
-pub(crate) fn word_in(words: &[u64], directory: &Directory, address: u64) -> Option<u64>
-    requires { length words.now ≡ length directory.now.owners.items }
-    ensures { result ≡ (if holds_word directory.now.objects.items address then Some (slice_index words.now (word_position directory.now.origin address)) else None) }
-{
-    if !directory.has_word(address) {
-        return None;
-    }
-    let position = word_index(directory.origin, address);
-    Some(words[position])
-}
 
 // Whether a link stays. Where its holder does and the object that it names doesn't, its word becomes 0.
 fn keep_link(words: &mut [u64], directory: &Directory, link: Link) -> bool

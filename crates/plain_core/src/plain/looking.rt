@@ -3,8 +3,8 @@ ghost use Rattle.std.specs.Prelude.{◌≡◌};
 ghost use Rattle.plain_core.specs.Along.{word_of};
 
 use super::Core;
-use crate::along::word_in;
 use crate::extent::Extent;
+use crate::owners::word_index;
 use links::Link;
 use roots::Roots;
 
@@ -34,6 +34,10 @@ impl Core {
     pub fn word(&self, address: u64) -> Option<u64>
         ensures { result ≡ word_of self.now address }
     {
-        word_in(&self.words, &self.directory, address)
+        if !self.directory.has_word(address) {
+            return None;
+        }
+        let position = word_index(self.directory.origin, address);
+        Some(self.words[position])
     }
 }

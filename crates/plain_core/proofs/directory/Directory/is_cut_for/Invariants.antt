@@ -1,6 +1,6 @@
 use Rattle.std.proofs.Common.{◌-◌}
 use Rattle.words.specs.declared.limits.TheConstants.{PAGE_WORDS}
-use Rattle.plain_core.specs.Places.{AreCutWords}
+use Rattle.plain_core.proofs.PageWords.{AreCutWords}
 use Rattle.plain_core.proofs.directory.Directory.is_cut_for.Given as goal
 
 -- so far

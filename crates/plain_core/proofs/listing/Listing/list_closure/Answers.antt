@@ -1,7 +1,6 @@
 use Rattle.std.proofs.Common.{◌<◌, ◌≤◌, ◌++◌, length, subst, arith}
 use Rattle.plain_core.specs.Aging.{MarksClosure}
-use Rattle.plain_core.specs.Discovery.{DiscoversClosure}
-use Rattle.plain_core.proofs.Aging.{closure_reached, discovered_reached}
+use Rattle.plain_core.proofs.Aging.{DiscoversClosure, closure_reached, discovered_reached}
 use Rattle.plain_core.proofs.InDirectory.{lies_at}
 use Rattle.plain_core.proofs.Lists.{listed_below, lists_more}
 use Rattle.plain_core.proofs.Reaching.{traced_roots, traced_then, traced_else, traced_order, traced_all}
