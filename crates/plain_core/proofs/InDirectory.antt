@@ -22,9 +22,6 @@ module _ (d : Directory) where
   pub evens : All (λ e. e.base % WORD_BYTES ≡ 0) d.objects.items
   evens k x lt = let l : LiesIn d.origin d.owners.items (get_or d.objects.items k x) = d.lie k x lt in let start = l.start in let whole = l.aligned in let first = d.starts in omega arith
 
-  pub starts_of : All (λ e. d.origin ≤ e.base) d.objects.items
-  starts_of k x lt = (d.lie k x lt).start
-
   -- no word points into two, and no base is that of two
   pub apart_of : AreApart d.objects.items
   apart_of = record { one = λ w i j p q. sym (d.owned.owned w i p) ∙ d.owned.owned w j q }

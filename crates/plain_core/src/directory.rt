@@ -5,7 +5,6 @@ ghost use Rattle.std.specs.List.{swap_remove};
 ghost use Rattle.std.specs.Vec.{vec_capacity};
 ghost use Rattle.words.specs.declared.limits.TheConstants.{WORD_BYTES};
 ghost use Rattle.heap_spec.specs.Layout.{PointsInto};
-ghost use Rattle.links.specs.Leaving.{word_index};
 ghost use Rattle.plain_core.specs.Along.{holds_word, has_base};
 ghost use Rattle.plain_core.specs.Owners.{AreOwners};
 ghost use Rattle.plain_core.specs.Parting.{Parts};
@@ -22,7 +21,7 @@ use words::Refusal;
 #[derive(Drop)]
 pub struct Directory {
     pub(crate) origin: u64,
-    pub(crate) objects: Vec<Extent>,
+    objects: Vec<Extent>,
     // For each word of the heap the place in the row of the object that has it. Those that no object has are open.
     owners: Vec<u64>,
     ghost starts: { origin % WORD_BYTES ≡ 0 },
@@ -45,6 +44,13 @@ impl Directory {
             objects,
             owners,
         })
+    }
+
+    // The objects, in the order of the row.
+    pub(crate) fn objects(&self) -> &[Extent]
+        ensures { result.now ≡ self.now.objects.items }
+    {
+        self.objects.as_slice()
     }
 
     // How many objects there are.

@@ -1,5 +1,5 @@
 //! Whether a new object may be put where it is to lie: in the heap, and where no object is.
-ghost use Rattle.std.specs.Prelude.{◌≡◌, ◌<◌, ◌≤◌, ◌+◌, ◌*◌, ◌%◌, IsTrue, false};
+ghost use Rattle.std.specs.Prelude.{◌≡◌, ◌<◌, ◌+◌, ◌*◌, ◌%◌, IsTrue, false};
 ghost use Rattle.words.specs.declared.limits.TheConstants.{WORD_BYTES};
 ghost use Rattle.heap_spec.specs.Layout.{word_end};
 ghost use Rattle.plain_core.specs.PlainContents.{IsInHeap, end_of};

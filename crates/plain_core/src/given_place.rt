@@ -1,5 +1,5 @@
 //! Whether a new object may go to a place that is given.
-ghost use Rattle.std.specs.Prelude.{◌≡◌, ℕ, ◌<◌, ◌≤◌, ◌+◌, ◌*◌, IfSome, IfNone, false, IsTrue};
+ghost use Rattle.std.specs.Prelude.{◌≡◌, ℕ, ◌<◌, ◌≤◌, ◌+◌, IfSome, IfNone, false, IsTrue};
 ghost use Rattle.words.specs.declared.limits.TheConstants.{MAX_PAGES, MAX_SMALL_WORDS, PAGE_BYTES};
 ghost use Rattle.words.specs.Layout.{page_start};
 ghost use Rattle.heap_spec.specs.Room.{length_of};

@@ -27,7 +27,7 @@ impl Core {
     pub fn objects(&self) -> &[Extent]
         ensures { result.now ≡ self.now.objects }
     {
-        self.directory.objects.as_slice()
+        self.directory.objects()
     }
 
     /// The word at an address, if one of the objects has it.
