@@ -1,10 +1,10 @@
 //! Where an object lies.
 ghost use Rattle.std.specs.Prelude.{◌≡◌, ◌-◌, ◌/◌, IsTrue, false};
 ghost use Rattle.words.specs.declared.limits.TheConstants.{WORD_BYTES};
-ghost use Rattle.heap_spec.specs.Layout.{PointsInto, LiesOn};
+ghost use Rattle.heap_spec.specs.Layout.{PointsInto};
 
 use words::Kind;
-use words::limits::{FIRST_ADDRESS, PAGE_BYTES, PageNo, WORD_BYTES};
+use words::limits::WORD_BYTES;
 
 /// Where an object lies, from its base and over so many words, and its kind.
 #[derive(Clone, Copy, Debug, PartialEq, Eq)]
@@ -29,15 +29,5 @@ impl Extent {
         ensures { result ≡ self.now.length - (address - self.now.base) / WORD_BYTES }
     {
         self.length - (address - self.base) / WORD_BYTES
-    }
-
-    // Whether one of its bytes lies on the page.
-    pub(crate) fn lies_on(&self, page: PageNo) -> bool
-        ensures yes { IsTrue result → LiesOn self.now.base self.now.length page }
-        ensures no { result ≡ false → LiesOn self.now.base self.now.length page → ⊥ }
-    {
-        let start = u128::from(FIRST_ADDRESS) + u128::from(PAGE_BYTES) * u128::from(page);
-        let end = u128::from(self.base) + u128::from(WORD_BYTES) * u128::from(self.length);
-        u128::from(self.base) < start + u128::from(PAGE_BYTES) && start < end
     }
 }

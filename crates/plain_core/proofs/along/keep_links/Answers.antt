@@ -7,9 +7,6 @@ use Rattle.plain_core.proofs.Leaving.{along_more, kept_more}
 use Rattle.plain_core.proofs.along.keep_links.Goals as goal
 use Rattle.plain_core.proofs.along.keep_links.Goals.{then-keep_link, else-keep_link}
 
-pub keep_link-requires : goal.keep_link-requires
-keep_link-requires c = c.loop-link.invariant.along.size ∙ c.requires.words
-
 pub loop-link-preserved : goal.loop-link-preserved
 loop-link-preserved c =
     let d : Link = record { address = 0; base = 0 } in

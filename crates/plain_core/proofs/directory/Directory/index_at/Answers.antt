@@ -1,16 +1,8 @@
 use Rattle.std.proofs.Common.{◌≡◌, ◌<◌, ◌≤◌, ◌∙◌, length, get_or, ap, subst, arith}
 use Rattle.std.specs.Prelude.{Some, slice_get}
 use Rattle.std.proofs.lemmas.List.{get_or_read}
-use Rattle.plain_core.proofs.Owning.{none_low, none_past, none_at, none_other}
+use Rattle.plain_core.proofs.Owning.{none_at, none_other}
 use Rattle.plain_core.proofs.directory.Directory.index_at.Goals as goal
-
-pub returns-then-address-self-clause-none : goal.returns-then-address-self-clause-none
-returns-then-address-self-clause-none c = none_low _ _ _ c.args.self.now.owned _ c.if-address-self.true
-
-pub returns-then-position-len-clause-none : goal.returns-then-position-len-clause-none
-returns-then-position-len-clause-none c =
-    let n = c.len.ensures in let past = c.if-position-len.true in let is = c.word_index-position.ensures in
-    none_past _ _ _ c.args.self.now.owned _ (omega (arith, c.args.self.now.owners.ok.0))
 
 pub returns-then-index-len-clause-none : goal.returns-then-index-len-clause-none
 returns-then-index-len-clause-none c =
@@ -27,6 +19,3 @@ returns-then-not-contains-clause-none c =
     none_other _ _ _ c.args.self.now.owned _ c.object.result
     (subst (λ k. slice_get c.args.self.now.objects.items k ≡ Some c.object.result) (at ∙ ap (λ p. get_or c.args.self.now.owners.items p 0) c.word_index-position.ensures) c.object.ensures)
     (c.contains.ensures.no c.if-not-contains.true)
-
-pub returns-clause-some : goal.returns-clause-some
-returns-clause-some c = (c.object.result, c.object.ensures, c.contains.ensures.yes c.if-not-contains.false)

@@ -11,6 +11,3 @@ pub returns-then-object-base-clause-none : goal.returns-then-object-base-clause-
 returns-then-object-base-clause-none c =
     let here = c.in_ok-index.ensures.some in other_base _ _ _ c.args.self.now.owned _ c.in_ok-index.index here.0 here.1 here.2
     (λ is. c.if-object-base.true (ap (λ (x : Extent). x.base) (same_Some _ _ (sym c.object.ensures ∙ here.1)) ∙ is))
-
-pub returns-clause-some : goal.returns-clause-some
-returns-clause-some c = (c.object.result, c.object.ensures, c.if-object-base.false)

@@ -7,9 +7,6 @@ use Rattle.plain_core.proofs.Leaving.{lie_same}
 use Rattle.plain_core.proofs.Owning.{owners_as, own_pushed}
 use Rattle.plain_core.proofs.directory.Directory.insert.Goals as goal
 
-pub push_reserved-requires : goal.push_reserved-requires
-push_reserved-requires c = let less = c.requires.room in let room = c.args.self.now.room in omega (arith, c.args.self.now.objects.ok.0)
-
 pub write_owner-requires-clause-apart : goal.write_owner-requires-clause-apart
 write_owner-requires-clause-apart c = rw (c.deref.ensures.value, c.push_reserved.ensures.items) (apart_pushed _ (apart_of c.args.self.now) c.args.object c.requires.fresh)
 
@@ -31,8 +28,3 @@ invariant_of-self c =
       few = let long = ap length c.push_reserved.ensures.items ∙ length_push _ _ in let size = ap length is ∙ filed in let less = c.requires.room in omega arith;
       room = let size = ap length is ∙ filed in let room = c.args.self.now.room in let more = c.push_reserved.ensures.capacity in omega arith;
     }
-
-pub returns-clause-words : goal.returns-clause-words
-returns-clause-words c =
-    let filed = c.write_owner.auto.owners ∙ ap length c.deref_mut.ensures.value in
-    ap length (with_items_is c.args.self.now.owners c.write_owner.new.owners (filed ∙ sym c.args.self.now.owners.ok.0)) ∙ filed

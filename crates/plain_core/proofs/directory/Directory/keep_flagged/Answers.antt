@@ -25,8 +25,3 @@ invariant_of-self c =
       few = let fewer = fewer_parted _ _ _ _ c.keep_flagged-gone.ensures.parts in let few = c.args.self.now.few in omega arith;
       room = let room = c.args.self.now.room in let same = c.keep_flagged-gone.ensures.capacity in omega arith;
     }
-
-pub returns-clause-words : goal.returns-clause-words
-returns-clause-words c =
-    let filed = c.write_owners.auto.owners ∙ ap length c.deref_mut.ensures.value in
-    ap length (with_items_is c.args.self.now.owners c.write_owners.new.owners (filed ∙ sym c.args.self.now.owners.ok.0)) ∙ filed

@@ -1,20 +1,7 @@
 use Rattle.std.proofs.lemmas.Option.{slice_get-get_or}
 use Rattle.plain_core.proofs.InDirectory.{one_of}
-use Rattle.plain_core.proofs.Lowest.{named_missing, named_marked, named_twice, named_right}
+use Rattle.plain_core.proofs.Lowest.{named_right}
 use Rattle.plain_core.proofs.directory.Directory.named_at.Goals as goal
-
-pub returns-in_default : goal.returns-in_default
-returns-in_default c = named_missing c.args.self.now.objects.items c.args.marks.now c.args.bases.now c.args.index _ (slice_get-get_or c.args.bases.now c.args.index _ c.requires.within) c.in_default.ensures.none
-
-pub returns-then-not-stays-position : goal.returns-then-not-stays-position
-returns-then-not-stays-position c =
-    let here = c.in-Some.ensures.some in
-    named_twice c.args.self.now.objects.items c.args.marks.now c.args.bases.now c.args.index _ (slice_get-get_or c.args.bases.now c.args.index _ c.requires.within) c.in-Some.position here.0 here.1 here.2 (one_of c.args.self.now) c.args.stays.now c.requires.flags c.if-not-stays-position.true
-
-pub returns-then-marks-position : goal.returns-then-marks-position
-returns-then-marks-position c =
-    let here = c.in-Some.ensures.some in
-    named_marked c.args.self.now.objects.items c.args.marks.now c.args.bases.now c.args.index _ (slice_get-get_or c.args.bases.now c.args.index _ c.requires.within) c.in-Some.position here.0 here.1 here.2 c.if-marks-position.true
 
 pub returns : goal.returns
 returns c =

@@ -1,6 +1,5 @@
-use Rattle.std.proofs.Common.{◌∙◌, length, refl, sym, ap, arith}
+use Rattle.std.proofs.Common.{◌∙◌, length, sym, ap, arith}
 use Rattle.std.proofs.lemmas.List.{with_items_is}
-use Rattle.std.proofs.lemmas.Option.{slice_get_read}
 use Rattle.plain_core.specs.Standing.{LiesIn}
 use Rattle.plain_core.proofs.InDirectory.{apart_of, apart_removed, all_removed}
 use Rattle.plain_core.proofs.Leaving.{lie_same}
@@ -30,11 +29,3 @@ invariant_of-self c =
       few = let fewer = c.swap_remove-object.ensures.len in let few = c.args.self.now.few in omega (arith, c.swap_remove-object.new.self.ok.0, c.args.self.now.objects.ok.0);
       room = let room = c.args.self.now.room in let same = c.swap_remove-object.ensures.capacity in omega arith;
     }
-
-pub returns-clause-removed : goal.returns-clause-removed
-returns-clause-removed c = slice_get_read c.args.self.now.objects.items _ c.args.index c.swap_remove-object.result refl c.requires c.swap_remove-object.ensures.value
-
-pub returns-clause-words : goal.returns-clause-words
-returns-clause-words c =
-    let filed = c.write_owner.auto.owners ∙ ap length c.deref_mut.ensures.value in
-    ap length (with_items_is c.args.self.now.owners c.write_owner.new.owners (filed ∙ sym c.args.self.now.owners.ok.0)) ∙ filed

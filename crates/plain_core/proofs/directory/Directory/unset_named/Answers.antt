@@ -1,13 +1,7 @@
-use Rattle.std.proofs.Common.{◌∙◌, sym, subst, refl}
+use Rattle.std.proofs.Common.{◌∙◌, sym, subst}
 use Rattle.std.proofs.lemmas.List.{take_more}
 use Rattle.plain_core.specs.Claims.{AreUnset}
 use Rattle.plain_core.proofs.directory.Directory.unset_named.Goals as goal
-
-pub loop-base-init : goal.loop-base-init
-loop-base-init c = (c.requires, refl)
-
-pub unset_one-requires : goal.unset_one-requires
-unset_one-requires c = c.loop-base.invariant.0.size
 
 pub loop-base-preserved : goal.loop-base-preserved
 loop-base-preserved c = (

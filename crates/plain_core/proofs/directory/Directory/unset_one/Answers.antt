@@ -1,17 +1,9 @@
-use Rattle.std.proofs.Common.{arith, length, ◌<◌}
-use Rattle.std.proofs.lemmas.Option.{slice_get_within}
 use Rattle.plain_core.proofs.InDirectory.{one_of}
 use Rattle.plain_core.proofs.Claiming.{unset_past, unset_more}
 use Rattle.plain_core.proofs.directory.Directory.unset_one.Goals as goal
 
 pub returns-in_default-clause-unset : goal.returns-in_default-clause-unset
 returns-in_default-clause-unset c bases unset = unset_past _ (one_of c.args.self.now) bases _ unset _ c.in_default.ensures.none
-
-pub index_mut-requires : goal.index_mut-requires
-index_mut-requires c =
-    let here = c.in-Some.ensures.some in
-    let short : c.in-Some.index < length c.args.self.now.objects.items = slice_get_within c.args.self.now.objects.items c.in-Some.index here.0 here.1 in
-    let room = c.requires in omega (arith, c.args.flags.now.ok.0)
 
 pub returns-clause-unset : goal.returns-clause-unset
 returns-clause-unset c bases unset = let here = c.in-Some.ensures.some in unset_more _ (one_of c.args.self.now) bases _ unset c.in-Some.index _ here.0 here.1 here.2

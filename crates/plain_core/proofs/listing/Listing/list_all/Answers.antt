@@ -7,9 +7,6 @@ use Rattle.plain_core.proofs.listing.Listing.list_all.Goals as goal
 pub loop-word-init : goal.loop-word-init
 loop-word-init c = lists_none _ _ c.requires
 
-pub list_one-requires : goal.list_one-requires
-list_one-requires c = c.loop-word.invariant.ready
-
 pub loop-word-preserved : goal.loop-word-preserved
 loop-word-preserved c = lists_take _ _ _ _ _ _ _ c.loop-word-test.true c.loop-word.invariant c.list_one.ensures
 

@@ -7,9 +7,6 @@ use Rattle.plain_core.proofs.Reaching.{traced_roots, traced_then, traced_else, t
 use Rattle.plain_core.proofs.listing.Listing.list_closure.Goals as goal
 use Rattle.plain_core.proofs.listing.Listing.list_closure.Goals.{then-next-len, else-next-len}
 
-pub list_flagged-requires : goal.list_flagged-requires
-list_flagged-requires c = c.list_all.ensures.ready
-
 pub loop-next-init : goal.loop-next-init
 loop-next-init c =
     let given = c.list_flagged.ensures in
@@ -54,6 +51,3 @@ returns-clause-reached c none = closure_reached _ _ _ _ _ (subst (λ flags. Mark
 pub returns-clause-discovered : goal.returns-clause-discovered
 returns-clause-discovered c none = discovered_reached _ _ _ _ _ (subst (λ flags. DiscoversClosure c.args.directory.now.origin c.args.roots.now c.args.words.now c.args.directory.now.objects.items flags c.loop-next.self.order.items) none
     (record { bases = c.loop-next.invariant.0; are = c.loop-next.invariant.1; discovered = traced_order _ _ _ _ _ _ _ c.loop-next.invariant.2 }))
-
-pub returns-clause-listed : goal.returns-clause-listed
-returns-clause-listed c = c.loop-next.invariant.2.ready

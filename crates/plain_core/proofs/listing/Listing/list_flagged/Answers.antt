@@ -11,9 +11,6 @@ loop-index-init c = lists_flagged_none _ _ _ _ c.requires
 pub is_flagged-requires : goal.is_flagged-requires
 is_flagged-requires c = (lies_at c.args.directory.now _ refl _ _ c.object-base.ensures).start
 
-pub list_one-requires : goal.list_one-requires
-list_one-requires c = c.loop-index.invariant.lists.ready
-
 pub loop-index-preserved : goal.loop-index-preserved
 loop-index-preserved c = elim c.if-is_flagged.branch [
   | then-is_flagged w ↦ rw w.self-is (lists_flagged_next _ _ _ _ _ _ c.loop-index.index _ c.object-base.ensures c.loop-index.invariant

@@ -7,24 +7,12 @@ use Rattle.plain_core.proofs.listing.Listing.list_one.Goals as goal
 pub returns-in_default : goal.returns-in_default
 returns-in_default c = lists_nothing _ _ _ c.requires c.in_default.ensures.none
 
-pub index-requires : goal.index-requires
-index-requires c =
-    let here = c.in-Some.ensures.some in
-    let short : c.in-Some.index < length c.args.directory.now.objects.items = slice_get_within c.args.directory.now.objects.items c.in-Some.index here.0 here.1 in
-    let room = c.requires.room.marks in omega (arith, c.args.self.now.marks.ok.0)
-
 pub returns-then-index : goal.returns-then-index
 returns-then-index c =
     let here = c.in-Some.ensures.some in
     let short : c.in-Some.index < length c.args.directory.now.objects.items = slice_get_within c.args.directory.now.objects.items c.in-Some.index here.0 here.1 in
     let lt : c.in-Some.index < length c.args.self.now.marks.items = let room = c.requires.room.marks in omega arith in
     lists_listed _ _ _ _ c.requires here (sym (get_or_read _ _ _ lt c.index.ensures false) ∙ c.if-index.true)
-
-pub index_mut-requires : goal.index_mut-requires
-index_mut-requires c =
-    let here = c.in-Some.ensures.some in
-    let short : c.in-Some.index < length c.args.directory.now.objects.items = slice_get_within c.args.directory.now.objects.items c.in-Some.index here.0 here.1 in
-    let room = c.requires.room.marks in omega (arith, c.args.self.now.marks.ok.0)
 
 pub push_reserved-requires : goal.push_reserved-requires
 push_reserved-requires c =

@@ -1,4 +1,4 @@
-use Rattle.std.proofs.Common.{refl, sym, ap, ◌∙◌, subst}
+use Rattle.std.proofs.Common.{sym, ap, ◌∙◌, subst}
 use Rattle.words.specs.Placing.{placement_of}
 use Rattle.heap_spec.specs.Steps.{Acts}
 use Rattle.plain_core.specs.PlainContents.{PlainContents, IsLaidOut, ArePlaced}

@@ -1,4 +1,4 @@
-use Rattle.std.proofs.Common.{refl, sym, ap, ◌∙◌}
+use Rattle.std.proofs.Common.{sym, ap, ◌∙◌}
 use Rattle.words.specs.Placing.{placement_of}
 use Rattle.plain_core.specs.PlainContents.{PlainContents}
 use Rattle.plain_core.proofs.Alloc.{cant_place, cant_size, cant_call, cant_share, fits_by, put_at}

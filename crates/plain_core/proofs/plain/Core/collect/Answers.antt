@@ -1,17 +1,8 @@
 use Rattle.std.proofs.Common.{◌≡◌, length, sym, ap, ◌∙◌, refl}
 use Rattle.std.proofs.lemmas.List.{with_items_is}
-use Rattle.plain_core.proofs.Collects.{collects, marks_room, room_kept}
+use Rattle.plain_core.proofs.Collects.{collects, room_kept}
 use Rattle.plain_core.proofs.Free.{rest_sound, along_of}
 use Rattle.plain_core.proofs.plain.Core.collect.Goals as goal
-
-pub list-requires-clause-words : goal.list-requires-clause-words
-list-requires-clause-words c = rw c.deref.ensures.value c.self.invariant.1.owned
-
-pub keep_flagged-count-requires : goal.keep_flagged-count-requires
-keep_flagged-count-requires c = rw c.deref-2.ensures.value (marks_room c.self.inside.directory _ _ c.self.invariant.1.lists c.list.ensures.room)
-
-pub take_along-requires : goal.take_along-requires
-take_along-requires c = rw (c.deref_mut.ensures.value, c.keep_flagged-count.ensures.words) c.self.invariant.1.owned
 
 pub invariant_of-self : goal.invariant_of-self
 invariant_of-self c =

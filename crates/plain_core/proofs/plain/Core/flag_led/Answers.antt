@@ -1,7 +1,7 @@
 use Rattle.std.proofs.Common.{refl}
 use Rattle.std.proofs.lemmas.List.Elements.{All-contains}
 use Rattle.plain_core.specs.Standing.{LiesIn}
-use Rattle.plain_core.proofs.Collects.{all_lie, marks_room}
+use Rattle.plain_core.proofs.Collects.{all_lie}
 use Rattle.plain_core.proofs.Flagging.{led_flagged, led_nothing, led_before, led_itself}
 use Rattle.plain_core.proofs.plain.Core.flag_led.Goals as goal
 
@@ -22,12 +22,6 @@ returns-then-has_no_links-clause-flags c =
     let some = c.in-Some.ensures.some in
     let none = rw c.deref.ensures.value at c.has_no_links.ensures c.if-has_no_links.true in
     rw (← c.self.view_is) (led_itself _ c.self.invariant.0 _ c.in-Some.object some.0 some.1 none _ _ c.set_flag.ensures)
-
-pub list_closure-requires-clause-words : goal.list_closure-requires-clause-words
-list_closure-requires-clause-words c = rw c.deref-2.ensures.value c.self.invariant.1.owned
-
-pub flag_marked-requires : goal.flag_marked-requires
-flag_marked-requires c = rw c.deref-3.ensures.value (marks_room c.self.inside.directory _ _ c.self.invariant.1.lists c.list_closure.ensures.room)
 
 pub returns-clause-flags : goal.returns-clause-flags
 returns-clause-flags c = rw (← c.self.view_is)

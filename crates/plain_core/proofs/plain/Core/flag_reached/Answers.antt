@@ -1,14 +1,7 @@
 use Rattle.std.proofs.Common.{false, refl, arith}
 use Rattle.plain_core.proofs.Lists.{none_set}
-use Rattle.plain_core.proofs.Collects.{marks_room}
 use Rattle.plain_core.proofs.Flagging.{reached_flagged}
 use Rattle.plain_core.proofs.plain.Core.flag_reached.Goals as goal
-
-pub list-requires-clause-words : goal.list-requires-clause-words
-list-requires-clause-words c = rw c.deref.ensures.value c.self.invariant.1.owned
-
-pub flag_marked-requires : goal.flag_marked-requires
-flag_marked-requires c = rw c.deref-2.ensures.value (marks_room c.self.inside.directory _ _ c.self.invariant.1.lists c.list.ensures.room)
 
 pub returns-clause-flags : goal.returns-clause-flags
 returns-clause-flags c = rw (← c.self.view_is)

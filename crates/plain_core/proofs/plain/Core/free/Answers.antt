@@ -1,6 +1,6 @@
-use Rattle.std.proofs.Common.{refl, ◌≡◌, length, sym, ap, ◌∙◌}
+use Rattle.std.proofs.Common.{◌≡◌, length, sym, ap, ◌∙◌}
 use Rattle.std.proofs.lemmas.List.{with_items_is}
-use Rattle.std.proofs.lemmas.Option.{same_Some, slice_get_within}
+use Rattle.std.proofs.lemmas.Option.{same_Some}
 use Rattle.heap_spec.specs.Steps.{Acts}
 use Rattle.plain_core.specs.declared.extent.Extent.{Extent}
 use Rattle.roots.proofs.Refusals.{handed_on, handed_on_none}
@@ -8,9 +8,6 @@ use Rattle.plain_core.proofs.Stands.{refused_vacant, keeps_all}
 use Rattle.plain_core.proofs.Objects.{reads_nothing}
 use Rattle.plain_core.proofs.Free.{refuses_inside, remove_sound, removes, along_of}
 use Rattle.plain_core.proofs.plain.Core.free.Goals as goal
-
-pub object-requires : goal.object-requires
-object-requires c = let found = rw c.in_ok-index.ensures.ok_part at c.index_at.ensures.some in slice_get_within _ _ _ found.1
 
 pub returns-in_err-mutator-clause-step : goal.returns-in_err-mutator-clause-step
 returns-in_err-mutator-clause-step c = rw (← c.self.view_is, handed_on _ _ _ c.from_residual.ensures.1 c.in_err-mutator.ensures.err.0) (refused_vacant _ _ _ c.in_err-mutator.ensures.err.1)
@@ -28,12 +25,6 @@ returns-then-object-address-clause-step c =
     (let found = rw (c.in_ok-index.ensures.ok_part, c.word-address.ensures) at c.index_at.ensures.some in
     refuses_inside _ c.self.invariant.0 _ found.0 _ _ _ c.in_ok-mutator.ensures.ok found.1 found.2
     (λ same. (rw c.word-address.ensures at c.if-object-address.true) (ap (λ (y : Extent). y.base) (same_Some _ _ (sym c.object.ensures ∙ found.1)) ∙ same)))
-
-pub remove-freed-requires : goal.remove-freed-requires
-remove-freed-requires c = let found = rw c.in_ok-index.ensures.ok_part at c.index_at.ensures.some in slice_get_within _ _ _ found.1
-
-pub take_along-requires : goal.take_along-requires
-take_along-requires c = rw (c.deref_mut.ensures.value, c.remove-freed.ensures.words) c.self.invariant.1.owned
 
 pub invariant_of-self : goal.invariant_of-self
 invariant_of-self c =

@@ -3,19 +3,8 @@ use Rattle.std.proofs.lemmas.List.{with_items_is}
 use Rattle.words.specs.declared.limits.TheConstants.{PAGE_WORDS}
 use Rattle.plain_core.specs.PlainContents.{PlainContents}
 use Rattle.plain_core.specs.Answering.{MayBePut}
-use Rattle.plain_core.proofs.Alloc.{IsZeroed, room_left, fits_row, lies_new, alloc_sound, puts}
+use Rattle.plain_core.proofs.Alloc.{IsZeroed, room_left, alloc_sound, puts}
 use Rattle.plain_core.proofs.plain.Core.put.Goals as goal
-
-pub word_index-start-requires : goal.word_index-start-requires
-word_index-start-requires c = (subst (λ (x : PlainContents). MayBePut x c.args.object) (sym c.self.view_is) c.requires.fits).in_heap.start
-
-pub fill-requires : goal.fill-requires
-fill-requires c =
-    let fits = subst (λ (x : PlainContents). MayBePut x c.args.object) (sym c.self.view_is) c.requires.fits in
-    rw (c.word_index-start.ensures, c.deref_mut.ensures.value) (fits_row _ c.args.object c.self.invariant.0 fits)
-
-pub insert-requires-clause-inside : goal.insert-requires-clause-inside
-insert-requires-clause-inside c = lies_new _ c.args.object c.self.invariant.0 (subst (λ (x : PlainContents). MayBePut x c.args.object) (sym c.self.view_is) c.requires.fits) _ c.self.invariant.1.owned
 
 pub insert-requires-clause-fresh : goal.insert-requires-clause-fresh
 insert-requires-clause-fresh c = (subst (λ (x : PlainContents). MayBePut x c.args.object) (sym c.self.view_is) c.requires.fits).fresh

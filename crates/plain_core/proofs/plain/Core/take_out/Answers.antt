@@ -1,18 +1,9 @@
-use Rattle.std.proofs.Common.{◌≡◌, length, sym, ap, subst, ◌∙◌, refl, arith}
+use Rattle.std.proofs.Common.{◌≡◌, length, sym, ap, subst, ◌∙◌, arith}
 use Rattle.std.proofs.lemmas.List.{with_items_is}
 use Rattle.plain_core.specs.Parting.{Parts}
-use Rattle.plain_core.proofs.Forgets.{all_set_of, takes_out}
+use Rattle.plain_core.proofs.Forgets.{takes_out}
 use Rattle.plain_core.proofs.Free.{rest_sound, along_of}
 use Rattle.plain_core.proofs.plain.Core.take_out.Goals as goal
-
-pub unset_named-requires : goal.unset_named-requires
-unset_named-requires c = all_set_of _ _ _ (c.fill.ensures.items (λ y clone. clone)) (let few = c.self.inside.directory.few in let room = c.self.invariant.1.flags in omega (arith, c.self.inside.stays.ok.0))
-
-pub keep_flagged-gone-requires : goal.keep_flagged-gone-requires
-keep_flagged-gone-requires c = rw c.deref.ensures.value c.unset_named.ensures.unset.size
-
-pub take_along-requires : goal.take_along-requires
-take_along-requires c = rw (c.deref_mut.ensures.value, c.keep_flagged-gone.ensures.words) c.self.invariant.1.owned
 
 pub invariant_of-self : goal.invariant_of-self
 invariant_of-self c =

@@ -1,21 +1,8 @@
 use Rattle.std.proofs.Common.{refl, sym, ap, arith, length, ◌∙◌}
 use Rattle.std.proofs.lemmas.List.{with_items_is}
 use Rattle.plain_core.proofs.Collects.{marks_room}
-use Rattle.plain_core.proofs.Forgets.{all_set_of}
 use Rattle.plain_core.proofs.Lowest.{left_are, unforgotten}
 use Rattle.plain_core.proofs.plain.Core.wrong_forgotten.Goals as goal
-
-pub list-requires-clause-words : goal.list-requires-clause-words
-list-requires-clause-words c = rw c.deref.ensures.value c.self.invariant.1.owned
-
-pub lowest_named-named-requires-clause-marks : goal.lowest_named-named-requires-clause-marks
-lowest_named-named-requires-clause-marks c = rw c.deref-2.ensures.value (marks_room c.self.inside.directory _ _ c.self.invariant.1.lists c.list.ensures.room)
-
-pub lowest_named-named-requires-clause-flags : goal.lowest_named-named-requires-clause-flags
-lowest_named-named-requires-clause-flags c = all_set_of _ _ _ (c.fill.ensures.items (λ y clone. clone)) (let few = c.self.inside.directory.few in let room = c.self.invariant.1.flags in omega (arith, c.self.inside.stays.ok.0))
-
-pub mark_flagged-requires : goal.mark_flagged-requires
-mark_flagged-requires c = rw c.deref_mut.ensures.value (marks_room c.self.inside.directory _ _ c.self.invariant.1.lists c.list.ensures.room)
 
 pub lowest_left-left-requires-clause-marks : goal.lowest_left-left-requires-clause-marks
 lowest_left-left-requires-clause-marks c =
