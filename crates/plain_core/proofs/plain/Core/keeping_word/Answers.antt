@@ -4,6 +4,9 @@ use Rattle.plain_core.proofs.Collects.{in_row}
 use Rattle.plain_core.proofs.Keeping.{kept_in_list}
 use Rattle.plain_core.proofs.plain.Core.keeping_word.Goals as goal
 
+pub link_into-requires-clause-below : goal.link_into-requires-clause-below
+link_into-requires-clause-below c = rw c.deref-2.ensures.value c.list.ensures.listed.listed.below
+
 pub returns-in_default-clause-keeper : goal.returns-in_default-clause-keeper
 returns-in_default-clause-keeper c =
     rw (← c.self.view_is)
