@@ -9,6 +9,8 @@
 // can be stopped (world.c), since who stops it has the lock: so nobody may wait for it with that signal blocked. Until there is a second
 // thread it is counted alone.
 //
+// Nobody sleeps without being woken: who sleeps is counted before he marks the word, and who takes it marks it if any are counted.
+//
 // Who was woken finds it taken again by a thread that takes it step after step: so that one gives way between two (mpgc_give_way).
 // Counted under threads.
 #include "layer.h"
@@ -19,12 +21,13 @@
 #include <unistd.h>
 
 #define WAITED_FOR ((uint32_t)1 << 31)
-enum { SPINS = 100, MOST_WAYS = 16 };
+enum { SPINS = 500, MOST_WAYS = 16 };  // looks: some tens of microseconds
 
 _Thread_local unsigned mpgc_lock_depth;
 static _Atomic uint32_t word;  // the number of the thread that has it, or 0; and whether others wait
 static _Thread_local uint32_t me __attribute__((tls_model("initial-exec")));
 static _Atomic uint32_t waiting;  // so many threads wait for it
+static _Atomic uint32_t sleeping; // so many of these sleep, or are about to
 static _Atomic uint32_t handed;   // so often one of these has got it
 static atomic_bool gives_way;     // and a thread sleeps until the next one has
 
@@ -40,19 +43,33 @@ bool mpgc_has_lock(void) { return mpgc_lock_depth > 0; }
 
 static bool change(uint32_t from, uint32_t to) { return atomic_compare_exchange_strong(&word, &from, to); }
 
+// Whether it was free, and is this thread's now. The word still says whether others sleep.
+static bool take_if_free(void)
+{
+    if (atomic_load_explicit(&word, memory_order_relaxed) != 0) return false;
+    return change(0, sleeping > 0 ? me | WAITED_FOR : me);
+}
+
+// Until this thread is woken, unless the word has changed.
+static void sleep_on(uint32_t seen)
+{
+    sleeping++;
+    if ((seen & WAITED_FOR) || change(seen, seen | WAITED_FOR))
+        syscall(SYS_futex, &word, FUTEX_WAIT_PRIVATE, seen | WAITED_FOR, LONGEST_WAIT, NULL, 0);
+    sleeping--;
+}
+
+// Who was woken looks at it for some time too: it is mostly held for less than a sleep takes, and who slept again at once would be woken by
+// each thread that gives it away.
 static void take_late(void)
 {
-    for (int k = 0; k < SPINS; k++) {
-        if (atomic_load_explicit(&word, memory_order_relaxed) == 0 && change(0, me)) return;
-        __builtin_ia32_pause();
-    }
     for (;;) {
-        uint32_t seen = word;
-        if (seen == 0) {
-            if (change(0, me | WAITED_FOR)) return;
-        } else if ((seen & WAITED_FOR) || change(seen, seen | WAITED_FOR)) {
-            syscall(SYS_futex, &word, FUTEX_WAIT_PRIVATE, seen | WAITED_FOR, LONGEST_WAIT, NULL, 0);
+        for (int k = 0; k < SPINS; k++) {
+            if (take_if_free()) return;
+            __builtin_ia32_pause();
         }
+        uint32_t seen = word;
+        if (seen != 0) sleep_on(seen);
     }
 }
 
@@ -115,6 +132,7 @@ void mpgc_lock_in_child(void)
 {
     me = 0;
     waiting = 0;
+    sleeping = 0;
     if (mpgc.is_threaded) word = mpgc_my_number();
 }
 
