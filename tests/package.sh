@@ -60,8 +60,8 @@ sources_are_told() {
     is "the rules of proof" "$(rt version)" "$(sed -n 's/^  mpheap: //p' "$papers/SOURCES")"
     is "wrong bodies" "$(find "$top"/crates/{words,block_map,draw}/must-fail -name '*.edit' -printf '%f\n' | sort)" \
         "$(sed -nE 's,^  crates/(words|block_map|draw)/must-fail/,,p' "$papers/SOURCES" | sort)"
-    is "those that a gate told of" "$(sed -n 's,.* crates/words/must-fail/,,p' "$top/out/refused" 2>/dev/null | sort)" \
-        "$(sed -n '/^Wrong bodies of which no gate/q; s,^  crates/words/must-fail/,,p' "$papers/SOURCES" | sort)"
+    is "those that a full test told of" "$(sed -n 's,.* crates/words/must-fail/,,p' "$top/out/refused" 2>/dev/null | sort)" \
+        "$(sed -n '/^Wrong bodies of which no full test/q; s,^  crates/words/must-fail/,,p' "$papers/SOURCES" | sort)"
     (cd "$1" && sed -n 's/^  \([0-9a-f]\{64\}  \.\/\)/\1/p' "$papers/SOURCES" | sha256sum --quiet -c) >"$room/said" 2>&1
     is "the sums of what is packed" "0 " "$? $(cat "$room/said")"
     (cd "$top" && sed -n 's/^  \([0-9a-f]\{64\}  [a-zH].*\)/\1/p' "$papers/SOURCES" | tee "$room/sums" | sha256sum --quiet -c) >"$room/said" 2>&1

@@ -1,7 +1,7 @@
 # shellcheck shell=bash disable=SC2154 # (mpheap has the other names)
 # Part of the wrapper mpheap, read by it: `package`, which packs what was proved and built, for machines that have no Rattle: as an archive
 # to be unpacked anywhere, and as a .deb. It proves nothing. SOURCES in it says what it was made from, and which wrong bodies the prover
-# refused, as far as a gate over the same sources left word of it (wrapper/refused.sh).
+# refused, as far as a full test over the same sources left word of it (wrapper/refused.sh).
 
 # package DIR
 package() {

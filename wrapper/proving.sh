@@ -1,5 +1,5 @@
 # shellcheck shell=bash disable=SC2034,SC2154 # (mpheap has the other names, and reads these)
-# Part of the wrapper mpheap, read by it: how crates are proved and built: by rt's gate, over a copy of what is wanted and no more.
+# Part of the wrapper mpheap, read by it: how crates are proved and built: by rt ci, over a copy of what is wanted and no more.
 # rt proves as many crates at once as there are processors and memory, goes on with those that don't stand on one that failed, and
 # keeps on its machine what it proved, by sums, so that a later build goes on from there. It runs a program only once that is proved
 # and built, and says apart what came of each: so no answer of a program is taken for a failed proof.
@@ -12,7 +12,7 @@ prove_and_build() {
     mapfile -t all < <(needed_in "$here" "$@")
     note "proves ${#all[@]} crates and builds $*; what was proved before isn't proved again; from nothing all take tens of minutes"
     work="the next build goes on with what rt has kept of this one"
-    run_gate
+    run_ci
     work=''
     for crate in "$@"; do bring "$crate"; done
     [[ $at != 0 ]] || { tail -n 15 "$room/told" >&2 && say "rt judged nothing: again by 'cd $here && rt ci $*'"; }
@@ -33,8 +33,8 @@ plant_tree() {
     done
 }
 
-# run_gate: with the crates of the tree in `all`, tells how far it is.
-run_gate() {
+# run_ci: with the crates of the tree in `all`, tells how far it is.
+run_ci() {
     local line crate last=0
     mkdir -p "$room/rt"
     mkfifo "$room/telling" || no_answer "no pipe can be made in $room"

@@ -1,6 +1,6 @@
 # shellcheck shell=bash disable=SC2154 # (mpheap has the other names)
-# Part of the wrapper mpheap, read by it and by the gate: which wrong bodies the prover refused. rt tells it while `rt ci` runs, and of no
-# earlier run; so the gate writes it down in out/refused, each with a sum of the edit and of all that its crate was made from.
+# Part of the wrapper mpheap, read by it and by the full test: which wrong bodies the prover refused. rt tells it while `rt ci` runs, and of no
+# earlier run; so the full test writes it down in out/refused, each with a sum of the edit and of all that its crate was made from.
 
 # The sums of the crates that were looked at, each of all that it was made from.
 declare -A crate_sums=()
@@ -36,8 +36,8 @@ tell_refused() {
             if grep -qsxF "$told" "$here/out/refused"; then known+=("$edit"); else unknown+=("$edit"); fi
         done
     done
-    echo "Wrong bodies that the prover refused in a gate over these sources, ${#known[@]}:"
+    echo "Wrong bodies that the prover refused in a full test over these sources, ${#known[@]}:"
     [[ ${#known[@]} = 0 ]] || printf '  %s\n' "${known[@]}"
-    echo "Wrong bodies of which no gate here tells that they were refused, ${#unknown[@]}:"
+    echo "Wrong bodies of which no full test here tells that they were refused, ${#unknown[@]}:"
     [[ ${#unknown[@]} = 0 ]] || printf '  %s\n' "${unknown[@]}"
 }

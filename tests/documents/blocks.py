@@ -1,7 +1,7 @@
 """What a document shows in its blocks. A block says behind its first fence what it is:
-    sh             commands, which the gate runs, a line for each, with what stands beside them
+    sh             commands, which the full test runs, a line for each, with what stands beside them
     sh needs WHAT ..   the same, where the machine has each WHAT: a program, or a library as -lNAME
-    sh measures    commands that measure for long, which the gate doesn't run
+    sh measures    commands that measure for long, which the full test doesn't run
     text, rust     no commands
 Beside a command, as its comment, may stand `status N`, with which it ends if not with 0, and in backquotes the beginning of a line that it
 prints. A table behind a block whose head is `| Line of the script | Reply |` has all that the block's last command prints."""

@@ -1,5 +1,5 @@
 #!/usr/bin/env bash
-# For the gate alone: where there is no Chromium for tests/viewer.sh, it is installed, if this is root on a Debian with a network, within five
+# For the full test alone: where there is no Chromium for tests/viewer.sh, it is installed, if this is root on a Debian with a network, within five
 # minutes. What isn't there then is said, and left out by tests/viewer.sh; so this never fails.
 set -uo pipefail
 room=$(mktemp -d)
@@ -7,7 +7,7 @@ trap 'rm -rf "$room"' EXIT
 trap 'exit 143' INT TERM HUP
 export DEBIAN_FRONTEND=noninteractive
 
-# left_out WHY: what the gate doesn't test.
+# left_out WHY: what the full test doesn't test.
 left_out() {
     echo "viewer: left out: the tests of the page in a browser: there is no Chromium, and $*"
     exit 0

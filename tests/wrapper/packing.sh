@@ -1,8 +1,8 @@
 # shellcheck shell=bash disable=SC2154 # (whoever reads this has the other names)
 # Part of tests/wrapper.sh, read by it: what `package` packs, and what it says of where that is from. tests/package.sh tries a real one.
 
-# a_gate_told EDIT..: rt's gate told of these wrong bodies of words that they were refused, and of one that it wasn't.
-a_gate_told() {
+# rt_told EDIT..: rt ci told of these wrong bodies of words that they were refused, and of one that it wasn't.
+rt_told() {
     local edit
     {
         for edit in "$@"; do echo "rt: must-fail words/$edit.edit: refused, as it must be: src/lib.rt:1:1: error"; done
@@ -23,14 +23,14 @@ a_package_is_made() {
     cp "$top"/docs/{SCRIPTS,REPLAY}.md "$tree/docs"
     cp "$top"/LICENSE-* "$tree"
     printf 'file: src/lib.rt\n' | tee "$tree"/crates/words/must-fail/{first,second,third,fourth}.edit >/dev/null
-    a_gate_told first second
+    rt_told first second
     echo "# more" >>"$tree/crates/words/must-fail/second.edit"
     call package "$room/packed"
     is "package: status, rt's calls" "0 " "$status $(calls)"
     is "package: what is made" "$room/packed/mpheap-0.1-x86_64.tar.gz" "$(sed -n 's/^mpheap: \(.*gz\)$/\1/p' "$room/out")"
     tar xzf "$room/packed/mpheap-0.1-x86_64.tar.gz" -C "$room/packed" || return
     stage=$room/packed/mpheap-0.1
-    is "package: the wrong bodies of which the gate told" "first.edit " "$(refused_in "$stage/$sources")"
+    is "package: the wrong bodies of which the full test told" "first.edit " "$(refused_in "$stage/$sources")"
     is "package: those of which it didn't, or of other texts" "fourth.edit second.edit third.edit " "$(unknown_in "$stage/$sources")"
     is "package: the rules of proof" "$(cat "$room/says/version")" "$(sed -n 's/^  mpheap: //p' "$stage/$sources")"
     is "package: its completion and pages" "$(lines "$stage"/share/{bash-completion/completions/mpheap,man/man1/mpheap.1,man/man3/libmpgc.3})" \
