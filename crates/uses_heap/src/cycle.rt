@@ -1,7 +1,9 @@
 //! A cycle of the collector, by small steps: a word that was stored is there afterwards.
-ghost use Rattle.std.specs.Prelude.{◌≡◌, IfOk};
-ghost use Rattle.uses_heap.specs.Lines.{KeepsThroughCycle};
+ghost use Rattle.std.specs.Prelude.{◌≡◌, ◌≢◌, IfOk};
+ghost use Rattle.heap_core.specs.Following.{AreLines};
+ghost use Rattle.uses_heap.specs.Lines.{Counts, kept_through_cycle};
 
+use crate::first_run::in_range;
 use heap_core::Core;
 use heap_core::laws::{calls_are_lines, held_words};
 use words::{Kind, Refusal, Reg, Slot};
@@ -12,16 +14,21 @@ use words::{Kind, Refusal, Reg, Slot};
 ///
 /// # Errors
 /// As those of the core's calls, whichever is refused.
-pub fn keep_through_cycle(core: &mut Core, slot: Slot, word: u64) -> Result<u64, Refusal>
-    ensures lines { IfOk result (λ loaded. KeepsThroughCycle core.old slot word loaded core.new) }
+pub fn keep_through_cycle(
+    core: &mut Core,
+    slot: Slot,
+    object: Reg,
+    scratch: Reg,
+    word: u64,
+) -> Result<u64, Refusal>
+    requires apart { object ≢ scratch }
+    ensures lines { IfOk result (λ loaded. (counts : Counts) × AreLines core.old (kept_through_cycle slot object scratch word counts loaded) core.new) }
     ensures loaded { IfOk result (λ loaded. loaded ≡ word) }
 {
-    let (Some(object), Some(scratch)) = (Reg::new(1), Reg::new(2)) else {
-        unreachable!();
-    };
     core.stands();
     held_words();
     calls_are_lines();
+    in_range(object, scratch);
     core.alloc(slot, object, 2, Kind::Normal)?;
     core.set(slot, scratch, word)?;
     core.store(slot, object, 0, scratch)?;
