@@ -115,8 +115,6 @@ fn cycle<J: Naming>(
 
 // One mutator and the collector, each in a thread of its own.
 fn run_two<'a, J: Naming + Send + Sync, R: Threads + Wait + Sync>(
-    rt: &R,
-    heap: &SharedHeap<J>,
     turns: &Barrier,
     me: Attached<'a, J, R>,
     word: u64,
@@ -124,6 +122,7 @@ fn run_two<'a, J: Naming + Send + Sync, R: Threads + Wait + Sync>(
 ) -> ((Attached<'a, J, R>, Option<u64>), Collector<J>)
     ensures { IfSome result.0.1 (λ loaded. PutsAndLoads J.origin word loaded me.entry result.0.0) }
 {
+    let (rt, heap) = (me.rt, me.heap);
     join(
         rt,
         move || put_and_load(turns, me, word),
@@ -133,8 +132,6 @@ fn run_two<'a, J: Naming + Send + Sync, R: Threads + Wait + Sync>(
 
 // The three, each in a thread of its own.
 fn run_three<'a, J: Naming + Send + Sync, R: Threads + Wait + Sync>(
-    rt: &R,
-    heap: &SharedHeap<J>,
     turns: &Barrier,
     one: Attached<'a, J, R>,
     other: Attached<'a, J, R>,
@@ -147,11 +144,12 @@ fn run_three<'a, J: Naming + Send + Sync, R: Threads + Wait + Sync>(
     ensures one { IfSome result.0.1 (λ loaded. PutsAndLoads J.origin words.0 loaded one.entry result.0.0) }
     ensures other { IfSome result.1.0.1 (λ loaded. PutsAndLoads J.origin words.1 loaded other.entry result.1.0.0) }
 {
+    let rt = one.rt;
     let (first, second) = words;
     join(
         rt,
         move || put_and_load(turns, one, first),
-        move || run_two(rt, heap, turns, other, second, collector),
+        move || run_two(turns, other, second, collector),
     )
 }
 
@@ -188,8 +186,6 @@ fn slot<'a, J: Naming, R: Wait>(me: &Attached<'a, J, R>) -> u8
 
 // All have then seen one history. The answer is how many mutators came in it.
 fn settle<'a, J: Naming, R: Wait>(
-    rt: &R,
-    heap: &SharedHeap<J>,
     one: &mut Attached<'a, J, R>,
     other: &mut Attached<'a, J, R>,
     collector: &mut Collector<J>,
@@ -204,7 +200,7 @@ fn settle<'a, J: Naming, R: Wait>(
     tell(one, collector);
     tell(other, collector);
     // By now the collector has seen all that the two did, and each learns the rest from it.
-    let came = heap.attaches_of(rt, collector);
+    let came = one.heap.attaches_of(one.rt, collector);
     tell(one, collector);
     tell(other, collector);
     let (_one, _other) = (slot(one), slot(other));
@@ -213,8 +209,6 @@ fn settle<'a, J: Naming, R: Wait>(
 
 // What was loaded after the three have run, where nobody else came.
 fn judge<'a, J: Naming, R: Wait>(
-    rt: &R,
-    heap: &SharedHeap<J>,
     one: &mut Attached<'a, J, R>,
     other: &mut Attached<'a, J, R>,
     collector: &mut Collector<J>,
@@ -225,7 +219,7 @@ fn judge<'a, J: Naming, R: Wait>(
     requires other { HasKept J.origin words.1 loaded.1 other.old }
     ensures { IfOk result (λ loaded. loaded ≡ words) }
 {
-    if settle(rt, heap, one, other, collector) != 2 {
+    if settle(one, other, collector) != 2 {
         return Err(KeptError::Stranger);
     }
     nobody_else_came();
@@ -260,21 +254,13 @@ fn keep_named<J: Naming + Send + Sync, R: Threads + Wait + Sync>(
     };
     let turns = Barrier::new(3);
     let ((mut one, first), ((mut other, second), mut collector)) = run_three(
-        rt, &heap, &turns, one, other, words, collector,
+        &turns, one, other, words, collector,
     );
     let (Some(first), Some(second)) = (first, second) else {
         return Err(KeptError::Refused);
     };
     let loaded = (first, second);
-    judge(
-        rt,
-        &heap,
-        &mut one,
-        &mut other,
-        &mut collector,
-        words,
-        loaded,
-    )
+    judge(&mut one, &mut other, &mut collector, words, loaded)
 }
 
 /// Two mutators each put a word into an object of their own and load it after a cycle, which the collector runs beside
