@@ -88,6 +88,7 @@ impl<O: Object, J: Naming> Log<O, J> {
         let rights = self.table.shared.split_seat::<Returns>(host);
         self.table.shared.join_seat::<Returns>(owner, rights);
     }
+
     // What the seat knows of the history, in a seat of its own.
     pub(crate) fn recall(
         &self,

@@ -90,6 +90,7 @@ impl<O: Object, J: Naming> Log<O, J> {
         self.table.shared.load::<Meets<O>>(&mut a.seat, 0);
         self.give_back(&mut b.seat, &mut a.seat);
     }
+
     /// The pass has then seen all that the other had when it was spent. It waits for nobody.
     pub fn hear(&self, pass: &mut Pass<O, J>, past: &mut Past<O, J>)
         ensures one { GrowsByOthers pass.old.slot pass.old.seen past.old.seen ⊎ IsPrefix past.old.seen pass.old.seen }

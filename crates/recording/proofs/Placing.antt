@@ -17,7 +17,7 @@ use Rattle.heap_spec.proofs.Objects.{with_at-same, one_read}
 use Rattle.heap_history.proofs.Held.{room_none}
 use Rattle.heap_core.specs.CoreContents.{CoreContents}
 use Rattle.heap_core.specs.Standing.{StandsFor}
-use Rattle.plain_core.specs.Answering.{IsBornAt}
+use Rattle.plain_heap.specs.Answering.{IsBornAt}
 use Rattle.recording.specs.RecorderContents.{RecorderContents, names_place}
 use Rattle.recording.specs.Noting.{NotesWord}
 

@@ -14,7 +14,7 @@ use Rattle.heap_spec.specs.Heap.{Heap, Object, HasObject}
 use Rattle.heap_spec.specs.Cycles.{TakesOut}
 use Rattle.heap_spec.specs.Ranges.{IsRegister}
 use Rattle.heap_spec.specs.Replies.{word_reply}
-use Rattle.heap_spec.specs.Runs.{Start, Run, Touched, heap_after}
+use Rattle.heap_spec.specs.Runs.{Start, Run, heap_after}
 use Rattle.heap_spec.specs.Sound.{IsSound}
 use Rattle.heap_spec.specs.Transcripts.{LineOf}
 use Rattle.heap_core.specs.CoreContents.{CoreContents}

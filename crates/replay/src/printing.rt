@@ -1,7 +1,7 @@
 //! What is printed of a run: whether it is legal, or which line isn't and what that line did.
 
 use crate::options::Asked;
-use plain_core::PathStep;
+use plain_heap::PathStep;
 use programs::Fault;
 use retelling::{Journal, first_text, hop_text};
 use written_runs::{Explained, Judgement, Verdict, reply_text, wrong_text};
@@ -86,17 +86,10 @@ fn print_deed(
     text: &str,
     said: &Explained,
 ) -> Result<(), Fault> {
-    let Ok(journal) = Journal::of(rt.alloc(), asked.places, text, line) else {
+    let Ok(journal) = Journal::of(rt.alloc(), asked.range(), text, line) else {
         return Err(Fault::Memory);
     };
-    let Ok(first) = first_text(
-        rt.alloc(),
-        &journal,
-        &asked.range(),
-        text,
-        line,
-        &said.judgement,
-    ) else {
+    let Ok(first) = first_text(rt.alloc(), &journal, text, line, &said.judgement) else {
         return Err(Fault::Memory);
     };
     print_about(rt, line, first.as_str())?;

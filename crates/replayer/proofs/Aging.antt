@@ -15,21 +15,17 @@ use Rattle.heap_spec.specs.Runs.{Start, Run, heap_after, needs_full_after, old_b
 use Rattle.heap_spec.specs.Steps.{Step}
 use Rattle.heap_spec.specs.Touching.{HasApartObjects}
 use Rattle.heap_spec.proofs.Births.{step_births}
-use Rattle.plain_core.specs.PlainContents.{PlainContents}
-use Rattle.plain_core.specs.Standing.{StandsFor}
-use Rattle.plain_core.specs.Answering.{IsBornAt}
-use Rattle.plain_core.specs.Flags.{IsFlagged, HasFlags}
-use Rattle.plain_core.specs.Aging.{TellOld, FlagsAll, FlagUnset, FlagsClosure}
+use Rattle.plain_heap.specs.PlainContents.{PlainContents}
+use Rattle.plain_heap.specs.Standing.{StandsFor}
+use Rattle.plain_heap.specs.Answering.{IsBornAt}
+use Rattle.plain_heap.specs.Flags.{IsFlagged, HasFlags}
+use Rattle.plain_heap.specs.Aging.{TellOld, FlagsAll, FlagUnset, FlagsClosure}
 use Rattle.replayer.specs.ReplayerContents.{TellTouched}
 
 -- a call that is no free, or that was not done, leaves the need of a full cycle
 pub not_free : (slot : ℕ) (call : Call) (reply : Reply) (before : Bool) → ((r : ℕ) → call ≡ Free r → ⊥) → needs_full_after (Mutator slot call) reply before ≡ before
 not_free slot (Free r) reply before other = absurd (other r refl)
 not_free slot _ reply before other = refl
-
-pub not_done : (slot r : ℕ) (reply : Reply) (before : Bool) → (reply ≡ Done → ⊥) → needs_full_after (Mutator slot (Free r)) reply before ≡ before
-not_done slot r Done before other = absurd (other refl)
-not_done slot r _ before other = refl
 
 module _ (s s' : Heap) (d' : HasApartObjects s') where
   -- a step that leaves the count of births leaves which objects are old

@@ -22,8 +22,8 @@ use Rattle.heap_spec.specs.Transcripts.{LineOf}
 use Rattle.heap_spec.proofs.Links.{left_by, same_left}
 use Rattle.heap_spec.proofs.Loads.{same_mutator}
 use Rattle.heap_spec.proofs.Objects.{at_cases, same_object}
-use Rattle.plain_core.specs.Anywhere.{Grants, HasRoomAnywhere, Requests, with_words}
-use Rattle.plain_core.specs.Answering.{IsBornOf}
+use Rattle.plain_heap.specs.Anywhere.{Grants, HasRoomAnywhere, Requests, with_words}
+use Rattle.plain_heap.specs.Answering.{IsBornOf}
 use Rattle.replayer.specs.Anywhere.{IsNoRequest, IsReplayAnywhere, LineAnywhere, NamesObject}
 use Rattle.replayer.specs.Laws.{SayTheSame}
 use Rattle.replayer.specs.declared.hint.Hint.{Hint}

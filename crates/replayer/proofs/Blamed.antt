@@ -1,26 +1,21 @@
--- What is wrong about the objects that a collection is said to have forgotten, from what the core tells.
-use Rattle.std.proofs.Common.{◌≡◌, ℕ, true, false, List, refl, sym, ◌∙◌}
-use Rattle.std.specs.Prelude.{Option, None, Result, Ok, Err, IfOk}
+-- What is wrong about the objects that a collection is said to have forgotten, from what the plain heap tells.
+use Rattle.std.proofs.Common.{◌≡◌, ℕ, true, false, List, sym, ◌∙◌}
+use Rattle.std.specs.Prelude.{Option, Result, Ok, Err, IfOk}
 use Rattle.std.specs.Global.{Vec}
-use Rattle.std.specs.Borrow.{Bor}
 use Rattle.std.proofs.lemmas.Bool.{true≢false}
 use Rattle.heap_spec.specs.Heap.{Heap}
 use Rattle.heap_spec.specs.Closure.{Reached}
 use Rattle.heap_spec.specs.Runs.{Start, Run, heap_after}
-use Rattle.heap_spec.specs.declared.event.Event.{Event}
-use Rattle.heap_spec.specs.declared.event.Event.TheVariants.{Attach, Mutator, Begin, BeginPartial, Roots, Mark, Retrace, Finish, Sweep, Collect, Number}
-use Rattle.plain_core.specs.declared.wrongs.Wrong.{Wrong}
-use Rattle.plain_core.specs.declared.wrongs.Wrong.TheVariants.{IsMissing, StandsTwice, HasToStay, HasToGo}
-use Rattle.plain_core.specs.declared.paths.PathStep.{PathStep}
-use Rattle.plain_core.specs.Standing.{StandsFor}
-use Rattle.plain_core.specs.Paths.{TellsPath}
-use Rattle.plain_core.specs.Flags.{IsFlagged}
-use Rattle.plain_core.specs.Wrongs.{IsWrong, TellsLowest, TellsUnforgotten}
-use Rattle.plain_core.proofs.Lowest.{alike}
-use Rattle.replayer.specs.declared.hint.Hint.{Hint}
-use Rattle.replayer.specs.declared.hint.Hint.TheVariants.{Nothing, Place, Forgot}
+use Rattle.plain_heap.specs.declared.wrongs.Wrong.{Wrong}
+use Rattle.plain_heap.specs.declared.wrongs.Wrong.TheVariants.{IsMissing, StandsTwice, HasToStay, HasToGo}
+use Rattle.plain_heap.specs.declared.paths.PathStep.{PathStep}
+use Rattle.plain_heap.specs.Standing.{StandsFor}
+use Rattle.plain_heap.specs.Paths.{TellsPath}
+use Rattle.plain_heap.specs.Flags.{IsFlagged}
+use Rattle.plain_heap.specs.Wrongs.{IsWrong, TellsLowest, TellsUnforgotten}
+use Rattle.plain_heap.proofs.Lowest.{alike}
 use Rattle.replayer.specs.ReplayerContents.{ReplayerContents, Follows}
-use Rattle.replayer.specs.Wrongs.{IsWrongFinish, IsWrongCollect, IsWrongHint, IsWrongOf, TellsWrong}
+use Rattle.replayer.specs.Wrongs.{IsWrongFinish}
 
 module _ (r : ReplayerContents) (start : Start) (run : Run) (f : Follows r start run) where
   -- no cycle is marking
@@ -29,7 +24,7 @@ module _ (r : ReplayerContents) (start : Start) (run : Run) (f : Follows r start
 
   module _ (marks : r.marking ≡ true) (bases : List ℕ) where
     abbrev Flagged : Wrong → Type 0
-    Flagged = IsWrong (heap_after start run) (λ base o. Reached (heap_after start run) base) (λ base o. IsFlagged r.core.origin r.touched base → ⊥) bases
+    Flagged = IsWrong (heap_after start run) (λ base o. Reached (heap_after start run) base) (λ base o. IsFlagged r.heap.origin r.touched base → ⊥) bases
 
     to_run : (x : Wrong) → Flagged x → IsWrongFinish start run bases x
     to_run (IsMissing b) h = (sym f.phase ∙ marks, h)
@@ -43,33 +38,11 @@ module _ (r : ReplayerContents) (start : Start) (run : Run) (f : Follows r start
     to_flags (HasToStay b) h = h.1
     to_flags (HasToGo b) h = let o = h.1.1 in (h.1.0, (o.0, o.1, λ flag. o.2 ((f.touched marks b o.0 o.1).0 flag)))
 
-    pub finish_wrong : (wrong : Option Wrong) → TellsUnforgotten r.core r.touched bases wrong → TellsLowest (IsWrongFinish start run bases) wrong
+    pub finish_wrong : (wrong : Option Wrong) → TellsUnforgotten r.heap r.touched bases wrong → TellsLowest (IsWrongFinish start run bases) wrong
     finish_wrong wrong tells = alike Flagged (IsWrongFinish start run bases) to_run to_flags wrong (tells (heap_after start run) f.stands)
 
--- a hint that names no bases says nothing wrong
-silent : (hint : Hint) → ((bases : Bor (List ℕ)) → hint ≡ Forgot bases → ⊥) → (Holds : List ℕ → Wrong → Type 0) (x : Wrong) → IsWrongHint Holds hint x → ⊥
-silent Nothing none Holds x h = h
-silent (Place base) none Holds x h = h
-silent (Forgot bases) none Holds x h = none bases refl
-
-silent_event : (start : Start) (run : Run) (event : Event) (hint : Hint) → ((Holds : List ℕ → Wrong → Type 0) (x : Wrong) → IsWrongHint Holds hint x → ⊥) → (x : Wrong) → IsWrongOf start run event hint x → ⊥
-silent_event start run Attach hint none x h = h
-silent_event start run (Mutator slot call) hint none x h = h
-silent_event start run Begin hint none x h = h
-silent_event start run BeginPartial hint none x h = h
-silent_event start run Roots hint none x h = h
-silent_event start run (Mark n) hint none x h = h
-silent_event start run Retrace hint none x h = h
-silent_event start run Finish hint none x h = none (IsWrongFinish start run) x h
-silent_event start run Sweep hint none x h = h
-silent_event start run Collect hint none x h = none (IsWrongCollect start run) x h
-silent_event start run Number hint none x h = h
-
-pub unnamed : (r : ReplayerContents) (event : Event) (hint : Hint) → ((bases : Bor (List ℕ)) → hint ≡ Forgot bases → ⊥) → TellsWrong r event hint None
-unnamed r event hint none = λ start run f x h. silent_event start run event hint (silent hint none) x h
-
--- a path of each heap that the core stands for is one of each run
-pub path_after : {E : Type 0} (r : ReplayerContents) (base : ℕ) (result : Result (Option (Vec PathStep)) E) → IfOk result (λ path. (s : Heap) → StandsFor r.core s → TellsPath s base path)
+-- a path of each heap that the plain heap stands for is one of each run
+pub path_after : {E : Type 0} (r : ReplayerContents) (base : ℕ) (result : Result (Option (Vec PathStep)) E) → IfOk result (λ path. (s : Heap) → StandsFor r.heap s → TellsPath s base path)
     → IfOk result (λ path. (start : Start) (run : Run) → Follows r start run → TellsPath (heap_after start run) base path)
 path_after r base (Ok path) told = λ start run f. told (heap_after start run) f.stands
 path_after r base (Err e) told = tt

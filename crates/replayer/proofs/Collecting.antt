@@ -14,11 +14,11 @@ use Rattle.heap_spec.specs.Heap.{Heap, Object, HasObject, without}
 use Rattle.heap_spec.specs.Cycles.{TakesOut}
 use Rattle.heap_spec.specs.Runs.{Start, Run, heap_after, is_marking, needs_full, old_births, count, goes_on, marking_after, counted}
 use Rattle.heap_spec.specs.Transcripts.{LineOf}
-use Rattle.plain_core.specs.PlainContents.{PlainContents}
-use Rattle.plain_core.specs.Standing.{StandsFor}
-use Rattle.plain_core.specs.Collections.{IsCollected, CantCollect, TakesBases, CantTake, HasUnreached}
-use Rattle.plain_core.specs.Flags.{ForgetsUnflagged, CantForget}
-use Rattle.plain_core.specs.Aging.{TellOld, FlagsAll}
+use Rattle.plain_heap.specs.PlainContents.{PlainContents}
+use Rattle.plain_heap.specs.Standing.{StandsFor}
+use Rattle.plain_heap.specs.Collections.{IsCollected, CantCollect, TakesBases, CantTake, HasUnreached}
+use Rattle.plain_heap.specs.Flags.{ForgetsUnflagged, CantForget}
+use Rattle.plain_heap.specs.Aging.{TellOld, FlagsAll}
 use Rattle.heap_spec.proofs.Links.{left_by, stays_by}
 use Rattle.replayer.specs.declared.hint.Hint.{Hint}
 use Rattle.replayer.specs.declared.hint.Hint.TheVariants.{Nothing, Place, Forgot}
@@ -48,7 +48,7 @@ same_bases s s' mine theirs is other all base o has out = same_among s s' mine t
 module _ (old : ReplayerContents) (small : old.number < word_end) (few : old.births < word_end) (new : PlainContents) (aged : List Bool) (size : length aged ≡ length old.aged) (all : FlagsAll new aged) (bases : Bor (List ℕ)) where
   -- the replayer after one
   abbrev pub ended : Bool → ReplayerContents
-  ended need = record old { core = new; marking = false; needs_full = need; number = (old.number + 1) % word_end; aged = aged }
+  ended need = record old { heap = new; marking = false; needs_full = need; number = (old.number + 1) % word_end; aged = aged }
 
   follows : (start : Start) (run : Run) (f : Follows old start run) (s' : Heap) (event : Event) (reply : Reply) (need : Bool) → counted event ≡ 1 → marking_after event (is_marking start run) ≡ false
       → need ≡ needs_full start (goes_on run event reply s') → old_births start (goes_on run event reply s') ≡ s'.births → s' ≡ without (heap_after start run) bases.now → StandsFor new s'
@@ -75,7 +75,7 @@ module _ (old : ReplayerContents) (small : old.number < word_end) (few : old.bir
   named : (n : ℕ) (s s' : Heap) → TakesOut s bases.now (Count (length bases.now)) s' → Count n ≡ Count (length bases.now) → TakesOut s bases.now (Count n) s'
   named n s s' takes is = subst (λ q. TakesOut s bases.now q s') (sym is) takes
 
-  pub finishes : ForgetsUnflagged old.core old.touched bases.now new → old.marking ≡ true → (n : ℕ) → n ≡ length bases.now → IsReplayed old Finish (Count n) (Forgot bases) (ended old.needs_full)
+  pub finishes : ForgetsUnflagged old.heap old.touched bases.now new → old.marking ≡ true → (n : ℕ) → n ≡ length bases.now → IsReplayed old Finish (Count n) (Forgot bases) (ended old.needs_full)
   finishes takes m n long start run f =
       let x = takes (heap_after start run) f.stands in
       let counts : Count n ≡ Count (length bases.now) = ap Count long in (
@@ -90,7 +90,7 @@ module _ (old : ReplayerContents) (small : old.number < word_end) (few : old.bir
         follows start run f x.0 Finish (Count n) old.needs_full refl refl f.needs refl x.1.after x.3,
       )
 
-  pub collects : TakesBases old.core bases.now true new → (n : ℕ) → n ≡ length bases.now → IsReplayed old Collect (Count n) (Forgot bases) (ended false)
+  pub collects : TakesBases old.heap bases.now true new → (n : ℕ) → n ≡ length bases.now → IsReplayed old Collect (Count n) (Forgot bases) (ended false)
   collects takes n long start run f =
       let x = takes (heap_after start run) f.stands in
       let counts : Count n ≡ Count (length bases.now) = ap Count long in (
@@ -121,7 +121,7 @@ module _ (old : ReplayerContents) (small : old.number < word_end) (few : old.bir
     pub finish_unnamed : (hint : Hint) → ((bases : Bor (List ℕ)) → hint ≡ Forgot bases → reply ≡ Count (length bases.now) → ⊥) → IsNoReplay old Finish reply hint
     finish_unnamed hint none = no_finish old small few reply hint wrong (λ m s h n s' is names theirs after all. unnamed hint none n s s' is names)
 
-    pub finish_untaken : (bases : Bor (List ℕ)) → CantForget old.core old.touched bases.now → IsNoReplay old Finish reply (Forgot bases)
+    pub finish_untaken : (bases : Bor (List ℕ)) → CantForget old.heap old.touched bases.now → IsNoReplay old Finish reply (Forgot bases)
     finish_untaken bases cant = no_finish old small few reply (Forgot bases) wrong
         (λ m s h n s' is names theirs after all. cant s h n s' names (λ base o has out. same_among s s' bases.now theirs names.after after base o has (all base o has out)))
 
@@ -133,7 +133,7 @@ module _ (old : ReplayerContents) (small : old.number < word_end) (few : old.bir
   pub collect_unnamed : (hint : Hint) → (hint ≡ Nothing → ⊥) → ((bases : Bor (List ℕ)) → hint ≡ Forgot bases → reply ≡ Count (length bases.now) → ⊥) → IsNoReplay old Collect reply hint
   collect_unnamed hint says none = no_collect old small few reply hint (λ s h n s' is names full. may_unnamed hint says none n s s' is names)
 
-  pub collect_untaken : (bases : Bor (List ℕ)) → CantTake old.core bases.now true → IsNoReplay old Collect reply (Forgot bases)
+  pub collect_untaken : (bases : Bor (List ℕ)) → CantTake old.heap bases.now true → IsNoReplay old Collect reply (Forgot bases)
   collect_untaken bases cant = no_collect old small few reply (Forgot bases)
       (λ s h n s' is names full. cant s h n s' names (λ all. same_bases s s' bases.now full.bases names.after full.takes.after full.all))
 
@@ -142,11 +142,11 @@ module _ (old : ReplayerContents) (small : old.number < word_end) (few : old.bir
 
 -- full collections of which nothing is said but how many objects they take
 module _ (old : ReplayerContents) (small : old.number < word_end) (few : old.births < word_end) (n : ℕ) where
-  pub collect_unequal : CantCollect old.core n → IsNoReplay old Collect (Count n) Nothing
+  pub collect_unequal : CantCollect old.heap n → IsNoReplay old Collect (Count n) Nothing
   collect_unequal cant = no_collect old small few (Count n) Nothing (λ s h k s' is names full. cant s h s' full)
 
-  pub collects_counted : (new : PlainContents) (aged : List Bool) → length aged ≡ length old.aged → FlagsAll new aged → IsCollected old.core n new
-      → IsReplayed old Collect (Count n) Nothing (record old { core = new; marking = false; needs_full = false; number = (old.number + 1) % word_end; aged = aged })
+  pub collects_counted : (new : PlainContents) (aged : List Bool) → length aged ≡ length old.aged → FlagsAll new aged → IsCollected old.heap n new
+      → IsReplayed old Collect (Count n) Nothing (record old { heap = new; marking = false; needs_full = false; number = (old.number + 1) % word_end; aged = aged })
   collects_counted new aged size all full start run f =
       let x = full (heap_after start run) f.stands in
       let same : x.0.births ≡ (heap_after start run).births = ap (λ (s : Heap). s.births) x.1.takes.after in

@@ -19,12 +19,12 @@ use Rattle.heap_spec.specs.Touching.{HasApartObjects, HasNewborn, StandsIn}
 use Rattle.heap_spec.proofs.Objects.{at_cases, with_at-same, same_object}
 use Rattle.heap_spec.proofs.Gaining.{Gains, calls_gain}
 use Rattle.heap_spec.proofs.Touching.{flags_tell, marking_closed, stands_one}
-use Rattle.plain_core.specs.PlainContents.{PlainContents}
-use Rattle.plain_core.specs.Standing.{StandsFor}
-use Rattle.plain_core.specs.Anywhere.{Requests, Grants, by, with_words}
-use Rattle.plain_core.specs.Answering.{IsAllocatedAnywhere, CantAllocateAnywhere, MayRefuse, CantRefuse, IsBornOf}
-use Rattle.plain_core.specs.Flags.{IsFlagged, FlagsLed}
-use Rattle.plain_core.specs.Aging.{FlagUnset}
+use Rattle.plain_heap.specs.PlainContents.{PlainContents}
+use Rattle.plain_heap.specs.Standing.{StandsFor}
+use Rattle.plain_heap.specs.Anywhere.{Requests, Grants, by, with_words}
+use Rattle.plain_heap.specs.Answering.{IsAllocatedAnywhere, CantAllocateAnywhere, MayRefuse, CantRefuse, IsBornOf}
+use Rattle.plain_heap.specs.Flags.{IsFlagged, FlagsLed}
+use Rattle.plain_heap.specs.Aging.{FlagUnset}
 use Rattle.replayer.specs.declared.hint.Hint.{Hint}
 use Rattle.replayer.specs.declared.hint.Hint.TheVariants.{Nothing, Place, Forgot}
 use Rattle.replayer.specs.ReplayerContents.{ReplayerContents, Follows}
@@ -126,7 +126,7 @@ module _ (old : ReplayerContents) where
   pub never : (event : Event) (reply : Reply) (hint : Hint) (n : ℕ) → IsNoRequest event → IsNoReplay old event reply hint → IsNoReplayAnywhere old event reply hint n
   never event reply hint n free none start run next f r = stuck event refl refl r.line
     where
-      stuck : (e : Event) → e ≡ event → {to : Run} → to ≡ next → LineAnywhere old.core.origin start run e reply to → ⊥
+      stuck : (e : Event) → e ≡ event → {to : Run} → to ≡ next → LineAnywhere old.heap.origin start run e reply to → ⊥
       stuck e is ends (LineAnywhere.requested {slot = slot} {into = into} {words = words} {kind = kind} asks) = free slot into words kind (sym is)
       stuck e is {to} ends (LineAnywhere.other other line) =
           none start run next f (record {
@@ -144,7 +144,7 @@ expects_ever r event reply free expects start run f = record {
   only = λ q next ne line. stuck event refl q ne line;
 }
   where
-    stuck : (e : Event) → e ≡ event → {to : Run} (q : Reply) → (reply ≡ q → ⊥) → LineAnywhere r.core.origin start run e q to → ⊥
+    stuck : (e : Event) → e ≡ event → {to : Run} (q : Reply) → (reply ≡ q → ⊥) → LineAnywhere r.heap.origin start run e q to → ⊥
     stuck e is q ne (LineAnywhere.requested {slot = slot} {into = into} {words = words} {kind = kind} asks) = free slot into words kind (sym is)
     stuck e is {to} q ne (LineAnywhere.other other line) = (expects start run f).only q to ne (subst (λ x. LineOf start run x q to) is line)
 
@@ -155,15 +155,15 @@ expects_if r event (Some reply) free expects = expects_ever r event reply free e
 module _ (old : ReplayerContents) (small : old.number < word_end) (few : old.births < word_end) where
   module _ (slot into words : ℕ) (kind : Kind) where
     -- a granted request
-    pub grants_anywhere : (base n : ℕ) (new : PlainContents) (flags aged : List Bool) → new.origin ≡ old.core.origin → AreApartIn old.core → AreApartIn new → IsAllocatedAnywhere old.core slot into words kind base n new → old.births + 1 < word_end
+    pub grants_anywhere : (base n : ℕ) (new : PlainContents) (flags aged : List Bool) → new.origin ≡ old.heap.origin → AreApartIn old.heap → AreApartIn new → IsAllocatedAnywhere old.heap slot into words kind base n new → old.births + 1 < word_end
         → length flags ≡ length old.touched → (old.marking ≡ true → FlagsLed new base old.touched flags) → FlagUnset new base old.aged aged
-        → IsReplayedAnywhere old (Mutator slot (Alloc into words kind)) Done (Place base) n (record old { core = new; births = old.births + 1; touched = flags; aged = aged })
+        → IsReplayedAnywhere old (Mutator slot (Alloc into words kind)) Done (Place base) n (record old { heap = new; births = old.births + 1; touched = flags; aged = aged })
     grants_anywhere base n new flags aged same apart apart' steps room size led unset start run f =
         let x = steps (heap_after start run) f.stands in
         granted x.0 x.1 x.2 x.3
       where
-        by_act : (m : HeapMutator) (s' : Heap) → IsAttached (heap_after start run) slot m → Grants (heap_after start run) old.core.origin slot m into words kind Done s' → IsBornOf (heap_after start run) base n s' → StandsFor new s'
-            → (next : Run) × IsReplayAnywhere old.core.origin (Place base) n start run (Mutator slot (Alloc into words kind)) Done next × Follows (record old { core = new; births = old.births + 1; touched = flags; aged = aged }) start next
+        by_act : (m : HeapMutator) (s' : Heap) → IsAttached (heap_after start run) slot m → Grants (heap_after start run) old.heap.origin slot m into words kind Done s' → IsBornOf (heap_after start run) base n s' → StandsFor new s'
+            → (next : Run) × IsReplayAnywhere old.heap.origin (Place base) n start run (Mutator slot (Alloc into words kind)) Done next × Follows (record old { heap = new; births = old.births + 1; touched = flags; aged = aged }) start next
         by_act m s' at (Grants.granted a l many has) born stands =
             let known = f.births in
             let d = apart (heap_after start run) f.stands in
@@ -180,14 +180,14 @@ module _ (old : ReplayerContents) (small : old.number < word_end) (few : old.bir
                   (old_or_new (heap_after start run) slot m at into a l kind d d') (gains (heap_after start run) slot m at into a l kind d d') (one_newborn (heap_after start run) slot m at into a l kind d d') born.0,
             )
 
-        granted : (s' : Heap) → Requests (heap_after start run) old.core.origin slot into words kind Done s' → IsBornOf (heap_after start run) base n s' → StandsFor new s'
-            → (next : Run) × IsReplayAnywhere old.core.origin (Place base) n start run (Mutator slot (Alloc into words kind)) Done next × Follows (record old { core = new; births = old.births + 1; touched = flags; aged = aged }) start next
+        granted : (s' : Heap) → Requests (heap_after start run) old.heap.origin slot into words kind Done s' → IsBornOf (heap_after start run) base n s' → StandsFor new s'
+            → (next : Run) × IsReplayAnywhere old.heap.origin (Place base) n start run (Mutator slot (Alloc into words kind)) Done next × Follows (record old { heap = new; births = old.births + 1; touched = flags; aged = aged }) start next
         granted s' (by {m = m} at act) born stands = by_act m s' at act born stands
 
-    pub no_grant_anywhere : (base n : ℕ) → CantAllocateAnywhere old.core slot into words kind base n → IsNoReplayAnywhere old (Mutator slot (Alloc into words kind)) Done (Place base) n
+    pub no_grant_anywhere : (base n : ℕ) → CantAllocateAnywhere old.heap slot into words kind base n → IsNoReplayAnywhere old (Mutator slot (Alloc into words kind)) Done (Place base) n
     no_grant_anywhere base n none start run next f r = stuck r.line (r.place slot into words kind refl refl)
       where
-        stuck : {to : Run} → LineAnywhere old.core.origin start run (Mutator slot (Alloc into words kind)) Done to → IsBornOf (heap_after start run) base n (heap_after start to) → ⊥
+        stuck : {to : Run} → LineAnywhere old.heap.origin start run (Mutator slot (Alloc into words kind)) Done to → IsBornOf (heap_after start run) base n (heap_after start to) → ⊥
         stuck (LineAnywhere.requested {s' = s'} asks) born = none (heap_after start run) f.stands s' asks born
         stuck (LineAnywhere.other free line) born = free slot into words kind refl
 
@@ -202,20 +202,20 @@ module _ (old : ReplayerContents) (small : old.number < word_end) (few : old.bir
     pub no_birth_anywhere : (hint : Hint) (n : ℕ) → word_end ≤ old.births + 1 → IsNoReplayAnywhere old (Mutator slot (Alloc into words kind)) Done hint n
     no_birth_anywhere hint n most start run next f r = stuck r.line r.births
       where
-        act_birth : (m : HeapMutator) (s' : Heap) → Grants (heap_after start run) old.core.origin slot m into words kind Done s' → s'.births ≡ (heap_after start run).births + 1
+        act_birth : (m : HeapMutator) (s' : Heap) → Grants (heap_after start run) old.heap.origin slot m into words kind Done s' → s'.births ≡ (heap_after start run).births + 1
         act_birth m s' (Grants.granted a l many has) = refl
 
-        birth : {s' : Heap} → Requests (heap_after start run) old.core.origin slot into words kind Done s' → s'.births ≡ (heap_after start run).births + 1
+        birth : {s' : Heap} → Requests (heap_after start run) old.heap.origin slot into words kind Done s' → s'.births ≡ (heap_after start run).births + 1
         birth {s'} (by {m = m} at act) = act_birth m s' act
 
-        stuck : {to : Run} → LineAnywhere old.core.origin start run (Mutator slot (Alloc into words kind)) Done to → (heap_after start to).births < word_end → ⊥
+        stuck : {to : Run} → LineAnywhere old.heap.origin start run (Mutator slot (Alloc into words kind)) Done to → (heap_after start to).births < word_end → ⊥
         stuck (LineAnywhere.requested {s' = s'} asks) less =
             let births : s'.births ≡ (heap_after start run).births + 1 = birth asks in
             let known = f.births in omega arith
         stuck (LineAnywhere.other free line) less = free slot into words kind refl
 
     -- a request that isn't granted
-    pub refuses_anywhere : (reply : Reply) (hint : Hint) (n : ℕ) → AreApartIn old.core → (reply ≡ Done → ⊥) → MayRefuse old.core slot words reply → IsReplayedAnywhere old (Mutator slot (Alloc into words kind)) reply hint n old
+    pub refuses_anywhere : (reply : Reply) (hint : Hint) (n : ℕ) → AreApartIn old.heap → (reply ≡ Done → ⊥) → MayRefuse old.heap slot words reply → IsReplayedAnywhere old (Mutator slot (Alloc into words kind)) reply hint n old
     refuses_anywhere reply hint n apart fair may start run f =
         let s : Heap = heap_after start run in
         let d = apart (heap_after start run) f.stands in
@@ -240,13 +240,13 @@ module _ (old : ReplayerContents) (small : old.number < word_end) (few : old.bir
             room = f.room;
             touched = λ marks.
                 flags_tell (heap_after start run) (heap_after start run) (Touched start run) (λ w. ⊥) d d (stays (heap_after start run)) (marking_closed start run (sym f.phase ∙ marks) d)
-                (IsFlagged old.core.origin old.touched) (IsFlagged old.core.origin old.touched) (f.touched marks) (λ b p has is. inl is) (λ b is. is) (λ w none. absurd none) (λ v w none. absurd none);
+                (IsFlagged old.heap.origin old.touched) (IsFlagged old.heap.origin old.touched) (f.touched marks) (λ b p has is. inl is) (λ b is. is) (λ w none. absurd none) (λ v w none. absurd none);
           },
         )
 
-    pub no_refusal_anywhere : (reply : Reply) (hint : Hint) (n : ℕ) → (reply ≡ Done → ⊥) → CantRefuse old.core slot words reply → IsNoReplayAnywhere old (Mutator slot (Alloc into words kind)) reply hint n
+    pub no_refusal_anywhere : (reply : Reply) (hint : Hint) (n : ℕ) → (reply ≡ Done → ⊥) → CantRefuse old.heap slot words reply → IsNoReplayAnywhere old (Mutator slot (Alloc into words kind)) reply hint n
     no_refusal_anywhere reply hint n fair cant start run next f r = stuck reply refl r.line
       where
-        stuck : (q : Reply) → q ≡ reply → {to : Run} → LineAnywhere old.core.origin start run (Mutator slot (Alloc into words kind)) q to → ⊥
-        stuck q is (LineAnywhere.requested {s' = s'} asks) = cant into kind (heap_after start run) s' f.stands fair (subst (λ x. Requests (heap_after start run) old.core.origin slot into words kind x s') is asks)
+        stuck : (q : Reply) → q ≡ reply → {to : Run} → LineAnywhere old.heap.origin start run (Mutator slot (Alloc into words kind)) q to → ⊥
+        stuck q is (LineAnywhere.requested {s' = s'} asks) = cant into kind (heap_after start run) s' f.stands fair (subst (λ x. Requests (heap_after start run) old.heap.origin slot into words kind x s') is asks)
         stuck q is (LineAnywhere.other free line) = free slot into words kind refl

@@ -32,7 +32,7 @@ use Rattle.heap_spec.specs.Touching.{HasApartObjects}
 use Rattle.heap_spec.proofs.Objects.{at_cases}
 use Rattle.heap_spec.proofs.Touching.{sound_apart}
 use Rattle.heap_spec.proofs.Calls.{calls_kept, attaches_kept, takes_out_kept}
-use Rattle.plain_core.specs.Answering.{IsBornAt}
+use Rattle.plain_heap.specs.Answering.{IsBornAt}
 use Rattle.replayer.specs.declared.hint.Hint.{Hint}
 use Rattle.replayer.specs.declared.hint.Hint.TheVariants.{Nothing, Place, Forgot}
 use Rattle.replayer.specs.Replays.{NamesPlace, NamesBases, IsReplay}

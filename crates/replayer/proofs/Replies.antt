@@ -1,4 +1,4 @@
--- The one reply to an event, from what the core answers.
+-- The one reply to an event, from what the plain heap answers.
 use Rattle.std.proofs.Common.{◌≡◌, ℕ, true, false, length, refl, sym, ap, ◌∙◌, subst}
 use Rattle.std.proofs.lemmas.Bool.{true≢false}
 use Rattle.words.specs.declared.refusal.Refusal.TheVariants.{WrongPhase, NeedsFull}
@@ -10,9 +10,9 @@ use Rattle.heap_spec.specs.Heap.{Heap}
 use Rattle.heap_spec.specs.Cycles.{CollectsFully}
 use Rattle.heap_spec.specs.Runs.{Start, Run, heap_after, is_marking, needs_full, goes_on}
 use Rattle.heap_spec.specs.Transcripts.{LineOf}
-use Rattle.plain_core.specs.Answering.{CanAnswer, CanAttach, IsNoStep}
-use Rattle.plain_core.specs.Collections.{HasGarbage}
-use Rattle.plain_core.proofs.Forgets.{same_count}
+use Rattle.plain_heap.specs.Answering.{CanAnswer, CanAttach, IsNoStep}
+use Rattle.plain_heap.specs.Collections.{HasGarbage}
+use Rattle.plain_heap.proofs.Forgets.{same_count}
 use Rattle.replayer.specs.ReplayerContents.{ReplayerContents}
 use Rattle.replayer.specs.Expecting.{Expects}
 
@@ -20,7 +20,7 @@ use Rattle.replayer.specs.Expecting.{Expects}
 not_both : (start : Start) (run : Run) → is_marking start run ≡ true → is_marking start run ≡ false → ⊥
 not_both start run marks idle = true≢false (sym marks ∙ idle)
 
-pub expects_attach : (r : ReplayerContents) (reply : Reply) → CanAttach r.core reply → ((other : Reply) → (reply ≡ other → ⊥) → IsNoStep r.core Attach other) → Expects r Attach reply
+pub expects_attach : (r : ReplayerContents) (reply : Reply) → CanAttach r.heap reply → ((other : Reply) → (reply ≡ other → ⊥) → IsNoStep r.heap Attach other) → Expects r Attach reply
 expects_attach r reply can only start run f = record {
   may = let x = can (heap_after start run) f.stands in (goes_on run Attach reply x.0, LineOf.happens x.1);
   only = λ other next ne line. stuck other ne line;
@@ -30,7 +30,7 @@ expects_attach r reply can only start run f = record {
     stuck q ne (LineOf.happens {s' = s'} happens) = only q ne (heap_after start run) f.stands s' happens
     stuck q ne (LineOf.refused wrong) = wrong
 
-pub expects_call : (r : ReplayerContents) (slot : ℕ) (call : Call) (reply : Reply) → CanAnswer r.core slot call reply → ((other : Reply) → (reply ≡ other → ⊥) → IsNoStep r.core (Mutator slot call) other) → Expects r (Mutator slot call) reply
+pub expects_call : (r : ReplayerContents) (slot : ℕ) (call : Call) (reply : Reply) → CanAnswer r.heap slot call reply → ((other : Reply) → (reply ≡ other → ⊥) → IsNoStep r.heap (Mutator slot call) other) → Expects r (Mutator slot call) reply
 expects_call r slot call reply can only start run f = record {
   may = let x = can (heap_after start run) f.stands in (goes_on run (Mutator slot call) reply x.0, LineOf.happens x.1);
   only = λ other next ne line. stuck other ne line;
@@ -146,7 +146,7 @@ full_reply s t t' n other x y =
     let counts = same_count s t t' n (length y.bases) x (subst (λ q. CollectsFully s q t') y.takes.number y) in
     ap Count counts ∙ sym y.takes.number
 
-pub expects_collect : (r : ReplayerContents) (n : ℕ) → HasGarbage r.core n → Expects r Collect (Count n)
+pub expects_collect : (r : ReplayerContents) (n : ℕ) → HasGarbage r.heap n → Expects r Collect (Count n)
 expects_collect r n garbage start run f = record {
   may = (goes_on run Collect (Count n) x.0, LineOf.happens x.1);
   only = λ other next ne line. stuck other ne line;

@@ -1,7 +1,6 @@
 -- How a run goes on, as a replayer follows it.
 use Rattle.std.proofs.Common.{◌≡◌, ◌⊎◌, ℕ, ◌+◌, ◌%◌, ◌<◌, ◌≤◌, Bool, true, false, List, length, refl, sym, ap, ◌∙◌, subst, arith, inl, inr, ⊎_elim}
 use Rattle.words.specs.declared.class.Kind.{Kind}
-use Rattle.words.specs.declared.limits.TheConstants.{FIRST_ADDRESS}
 use Rattle.words.specs.declared.refusal.Refusal.TheVariants.{WrongPhase, NeedsFull}
 use Rattle.heap_spec.specs.declared.call.Call.{Call}
 use Rattle.heap_spec.specs.declared.call.Call.TheVariants.{Alloc}
@@ -16,20 +15,20 @@ use Rattle.heap_spec.specs.Replies.{IsStep}
 use Rattle.heap_spec.specs.Runs.{Start, Run, heap_after, needs_full_after, old_births, goes_on}
 use Rattle.heap_spec.specs.Steps.{Acts, Calls, acts, vacant, Attaches}
 use Rattle.heap_spec.specs.Transcripts.{LineOf, IsWrongPhase}
-use Rattle.plain_core.specs.PlainContents.{PlainContents}
-use Rattle.plain_core.specs.Standing.{StandsFor}
-use Rattle.plain_core.specs.Answering.{IsNoStep, IsBornAt, IsAllocatedAt, CantAllocateAt}
-use Rattle.plain_core.specs.Flags.{HasFlags, FlagsReached, FlagsLed, FlagsBrought, NamesUnflagged}
-use Rattle.plain_core.specs.Aging.{FlagUnset, FlagsClosure, TellOld}
+use Rattle.plain_heap.specs.PlainContents.{PlainContents}
+use Rattle.plain_heap.specs.Standing.{StandsFor}
+use Rattle.plain_heap.specs.Answering.{IsBornAt, IsAllocatedAt}
+use Rattle.plain_heap.specs.Flags.{HasFlags, FlagsReached, FlagsLed, FlagsBrought, NamesUnflagged}
+use Rattle.plain_heap.specs.Aging.{FlagUnset, FlagsClosure, TellOld}
 use Rattle.heap_spec.specs.Touching.{HasApartObjects, HasNewborn}
 use Rattle.heap_spec.specs.Laws.{IsOldOrNew}
 use Rattle.heap_spec.proofs.Births.{step_births}
 use Rattle.heap_spec.proofs.Gaining.{Gains, calls_gain}
 use Rattle.heap_spec.proofs.Touching.{calls_newborn, calls_pages, attach_pages}
 use Rattle.replayer.specs.declared.hint.Hint.{Hint}
-use Rattle.replayer.specs.declared.hint.Hint.TheVariants.{Nothing, Place, Forgot}
+use Rattle.replayer.specs.declared.hint.Hint.TheVariants.{Place}
 use Rattle.replayer.specs.ReplayerContents.{ReplayerContents, Follows, TellTouched}
-use Rattle.replayer.specs.Replays.{IsGrant, NamesPlace, NamesBases, MayNameBases, IsReplayed, IsNoReplay}
+use Rattle.replayer.specs.Replays.{IsGrant, NamesBases, MayNameBases, IsReplayed, IsNoReplay}
 use Rattle.replayer.proofs.Telling.{attach_tell, call_tell, grant_tell, begin_tell}
 use Rattle.replayer.proofs.Aging.{old_tell, new_tell, partial_tell}
 
@@ -57,7 +56,7 @@ attach_births s (Attaches.no_slot none) = refl
 pub same_number : (n : ℕ) → n < word_end → (n + 0) % word_end ≡ n
 same_number n small = omega arith
 
--- what is true of the objects of the heaps that a core stands for
+-- what is true of the objects of the heaps that a plain heap stands for
 abbrev pub AreApartIn : PlainContents → Type 0
 AreApartIn c = (s : Heap) → StandsFor c s → HasApartObjects s
 
@@ -67,8 +66,8 @@ room_as pages pages' flags flags' room same size = omega (arith, room, same, siz
 
 module _ (old : ReplayerContents) (small : old.number < word_end) (few : old.births < word_end) where
   -- a mutator comes
-  pub attaches : (new : PlainContents) (reply : Reply) (hint : Hint) → new.origin ≡ old.core.origin → AreApartIn old.core → AreApartIn new → IsStep (StandsFor old.core) Attach reply (StandsFor new)
-      → IsReplayed old Attach reply hint (record old { core = new })
+  pub attaches : (new : PlainContents) (reply : Reply) (hint : Hint) → new.origin ≡ old.heap.origin → AreApartIn old.heap → AreApartIn new → IsStep (StandsFor old.heap) Attach reply (StandsFor new)
+      → IsReplayed old Attach reply hint (record old { heap = new })
   attaches new reply hint same apart apart' steps start run f =
       let x = steps (heap_after start run) f.stands in
       let births : x.0.births ≡ (heap_after start run).births = attach_births (heap_after start run) x.1 in
@@ -89,24 +88,17 @@ module _ (old : ReplayerContents) (small : old.number < word_end) (few : old.bir
           births = f.births ∙ sym births;
           aged_room = room_as _ _ _ _ f.aged_room (attach_pages (heap_after start run) x.1) refl;
           past = subst (λ n. old_births start run ≤ n) (sym births) f.past;
-          aged = subst (λ o. TellOld o x.0 old.aged (old_births start run)) (sym same) (old_tell (heap_after start run) x.0 (apart' x.0 x.2) old.core.origin Attach reply x.1 births old.aged (old_births start run) f.aged);
+          aged = subst (λ o. TellOld o x.0 old.aged (old_births start run)) (sym same) (old_tell (heap_after start run) x.0 (apart' x.0 x.2) old.heap.origin Attach reply x.1 births old.aged (old_births start run) f.aged);
           room = room_as _ _ _ _ f.room (attach_pages (heap_after start run) x.1) refl;
           touched = λ marks. subst (λ o. TellTouched o old.touched start (goes_on run Attach reply x.0)) (sym same)
-              (attach_tell start run x.0 (sym f.phase ∙ marks) (apart (heap_after start run) f.stands) (apart' x.0 x.2) old.core.origin reply old.touched x.1 (f.touched marks));
+              (attach_tell start run x.0 (sym f.phase ∙ marks) (apart (heap_after start run) f.stands) (apart' x.0 x.2) old.heap.origin reply old.touched x.1 (f.touched marks));
         },
       )
 
-  pub no_attach : (reply : Reply) (hint : Hint) → IsNoStep old.core Attach reply → IsNoReplay old Attach reply hint
-  no_attach reply hint none start run next f r = stuck reply refl r.line
-    where
-      stuck : (q : Reply) → q ≡ reply → {to : Run} → LineOf start run Attach q to → ⊥
-      stuck q is (LineOf.happens {s' = s'} happens) = none (heap_after start run) f.stands s' (subst (λ x. Attaches (heap_after start run) x s') is happens)
-      stuck q is (LineOf.refused wrong) = wrong
-
   -- a call of a mutator that grants no request
-  pub calls : (new : PlainContents) (need : Bool) (flags : List Bool) (slot : ℕ) (call : Call) (reply : Reply) (hint : Hint) → new.origin ≡ old.core.origin → AreApartIn old.core → AreApartIn new → (IsGrant call reply → ⊥)
-      → IsStep (StandsFor old.core) (Mutator slot call) reply (StandsFor new) → need ≡ needs_full_after (Mutator slot call) reply old.needs_full → length flags ≡ length old.touched
-      → (old.marking ≡ true → FlagsBrought new slot call old.touched flags) → IsReplayed old (Mutator slot call) reply hint (record old { core = new; needs_full = need; touched = flags })
+  pub calls : (new : PlainContents) (need : Bool) (flags : List Bool) (slot : ℕ) (call : Call) (reply : Reply) (hint : Hint) → new.origin ≡ old.heap.origin → AreApartIn old.heap → AreApartIn new → (IsGrant call reply → ⊥)
+      → IsStep (StandsFor old.heap) (Mutator slot call) reply (StandsFor new) → need ≡ needs_full_after (Mutator slot call) reply old.needs_full → length flags ≡ length old.touched
+      → (old.marking ≡ true → FlagsBrought new slot call old.touched flags) → IsReplayed old (Mutator slot call) reply hint (record old { heap = new; needs_full = need; touched = flags })
   calls new need flags slot call reply hint same apart apart' none steps needed size brought start run f =
       let x = steps (heap_after start run) f.stands in
       let births : x.0.births ≡ (heap_after start run).births = calls_births (heap_after start run) slot call reply x.0 x.1 none in
@@ -127,28 +119,21 @@ module _ (old : ReplayerContents) (small : old.number < word_end) (few : old.bir
           births = f.births ∙ sym births;
           aged_room = room_as _ _ _ _ f.aged_room (calls_pages (heap_after start run) slot call x.1) refl;
           past = subst (λ n. old_births start run ≤ n) (sym births) f.past;
-          aged = subst (λ o. TellOld o x.0 old.aged (old_births start run)) (sym same) (old_tell (heap_after start run) x.0 (apart' x.0 x.2) old.core.origin (Mutator slot call) reply x.1 births old.aged (old_births start run) f.aged);
+          aged = subst (λ o. TellOld o x.0 old.aged (old_births start run)) (sym same) (old_tell (heap_after start run) x.0 (apart' x.0 x.2) old.heap.origin (Mutator slot call) reply x.1 births old.aged (old_births start run) f.aged);
           room = room_as _ _ _ _ f.room (calls_pages (heap_after start run) slot call x.1) size;
           touched = λ marks. call_tell start run x.0 (sym f.phase ∙ marks) (apart (heap_after start run) f.stands) (apart' x.0 x.2) new x.2 old.touched flags
               (room_as _ _ _ _ f.room (sym x.2.pages ∙ calls_pages (heap_after start run) slot call x.1) refl) (subst (λ o. TellTouched o old.touched start run) (sym same) (f.touched marks)) slot call reply x.1 none (brought marks);
         },
       )
 
-  pub no_call : (slot : ℕ) (call : Call) (reply : Reply) (hint : Hint) → IsNoStep old.core (Mutator slot call) reply → IsNoReplay old (Mutator slot call) reply hint
-  no_call slot call reply hint none start run next f r = stuck reply refl r.line
-    where
-      stuck : (q : Reply) → q ≡ reply → {to : Run} → LineOf start run (Mutator slot call) q to → ⊥
-      stuck q is (LineOf.happens {s' = s'} happens) = none (heap_after start run) f.stands s' (subst (λ x. Calls (heap_after start run) slot call x s') is happens)
-      stuck q is (LineOf.refused wrong) = wrong
-
   -- a granted request
   module _ (slot into words base : ℕ) (kind : Kind) where
     -- the heap after one is followed, by what came to it
-    pub follows_grant : (new : PlainContents) (flags aged : List Bool) → new.origin ≡ old.core.origin → old.births + 1 < word_end → length flags ≡ length old.touched → (old.marking ≡ true → FlagsLed new base old.touched flags) → FlagUnset new base old.aged aged
+    pub follows_grant : (new : PlainContents) (flags aged : List Bool) → new.origin ≡ old.heap.origin → old.births + 1 < word_end → length flags ≡ length old.touched → (old.marking ≡ true → FlagsLed new base old.touched flags) → FlagUnset new base old.aged aged
         → (start : Start) (run : Run) → Follows old start run → (s' : Heap) → StandsFor new s' → HasApartObjects (heap_after start run) → HasApartObjects s' → s'.births ≡ (heap_after start run).births + 1 → s'.pages ≡ (heap_after start run).pages
         → ((q : ℕ) (p : Object) → HasObject s' q p → IsOldOrNew (heap_after start run) q p) → Gains (heap_after start run) s' (HasNewborn (heap_after start run) s')
         → ((v w : ℕ) → HasNewborn (heap_after start run) s' v → HasNewborn (heap_after start run) s' w → v ≡ w) → IsBornAt (heap_after start run) base s'
-        → Follows (record old { core = new; births = old.births + 1; touched = flags; aged = aged }) start (goes_on run (Mutator slot (Alloc into words kind)) Done s')
+        → Follows (record old { heap = new; births = old.births + 1; touched = flags; aged = aged }) start (goes_on run (Mutator slot (Alloc into words kind)) Done s')
     follows_grant new flags aged same room size led unset start run f s' stands d d' births pages split gain one born = record {
       stands = stands;
       phase = f.phase;
@@ -162,9 +147,9 @@ module _ (old : ReplayerContents) (small : old.number < word_end) (few : old.bir
       touched = λ marks. grant_tell start run s' (sym f.phase ∙ marks) d d' new stands old.touched flags (room_as _ _ _ _ f.room (sym stands.pages ∙ pages) refl) (subst (λ o. TellTouched o old.touched start run) (sym same) (f.touched marks)) slot into words base kind gain one born (led marks);
     }
 
-    pub grants : (new : PlainContents) (flags aged : List Bool) → new.origin ≡ old.core.origin → AreApartIn old.core → AreApartIn new → IsAllocatedAt old.core slot into words kind base new → old.births + 1 < word_end
+    pub grants : (new : PlainContents) (flags aged : List Bool) → new.origin ≡ old.heap.origin → AreApartIn old.heap → AreApartIn new → IsAllocatedAt old.heap slot into words kind base new → old.births + 1 < word_end
         → length flags ≡ length old.touched → (old.marking ≡ true → FlagsLed new base old.touched flags) → FlagUnset new base old.aged aged
-        → IsReplayed old (Mutator slot (Alloc into words kind)) Done (Place base) (record old { core = new; births = old.births + 1; touched = flags; aged = aged })
+        → IsReplayed old (Mutator slot (Alloc into words kind)) Done (Place base) (record old { heap = new; births = old.births + 1; touched = flags; aged = aged })
     grants new flags aged same apart apart' steps room size led unset start run f =
         let x = steps (heap_after start run) f.stands in
         let births : x.0.births ≡ (heap_after start run).births + 1 = call_birth (heap_after start run) slot into words kind x.1 in
@@ -184,21 +169,7 @@ module _ (old : ReplayerContents) (small : old.number < word_end) (few : old.bir
               (calls_newborn (heap_after start run) d slot into words kind x.1) x.2,
         )
 
-    pub no_grant : CantAllocateAt old.core slot into words kind base → old.core.origin ≡ FIRST_ADDRESS → IsNoReplay old (Mutator slot (Alloc into words kind)) Done (Place base)
-    no_grant none begins start run next f r = stuck r.line (r.place slot into words kind refl refl)
-      where
-        stuck : {to : Run} → LineOf start run (Mutator slot (Alloc into words kind)) Done to → IsBornAt (heap_after start run) base (heap_after start to) → ⊥
-        stuck (LineOf.happens {s' = s'} happens) born = none begins (heap_after start run) f.stands s' happens born
-
-  -- no request is granted where no place is named, or where births are at their end
-  no_name : (hint : Hint) → ((base : ℕ) → hint ≡ Place base → ⊥) → (s s' : Heap) → NamesPlace hint s s' → ⊥
-  no_name Nothing ne s s' names = names
-  no_name (Place base) ne s s' names = ne base refl
-  no_name (Forgot bases) ne s s' names = names
-
-  pub no_place : (slot into words : ℕ) (kind : Kind) (hint : Hint) → ((base : ℕ) → hint ≡ Place base → ⊥) → IsNoReplay old (Mutator slot (Alloc into words kind)) Done hint
-  no_place slot into words kind hint ne start run next f r = no_name hint ne (heap_after start run) (heap_after start next) (r.place slot into words kind refl refl)
-
+  -- no request is granted where births are at their end
   pub no_birth : (slot into words : ℕ) (kind : Kind) (hint : Hint) → word_end ≤ old.births + 1 → IsNoReplay old (Mutator slot (Alloc into words kind)) Done hint
   no_birth slot into words kind hint most start run next f r = stuck r.line r.births
     where
@@ -253,7 +224,7 @@ module _ (old : ReplayerContents) (small : old.number < word_end) (few : old.bir
       (λ start run f. subst (λ k. LineOf start run Number (Count k) run) (sym (is ∙ f.number)) LineOf.number)
 
   -- a cycle begins
-  pub begins : (flags : List Bool) (hint : Hint) → AreApartIn old.core → length flags ≡ length old.touched → FlagsReached old.core flags → old.marking ≡ false
+  pub begins : (flags : List Bool) (hint : Hint) → AreApartIn old.heap → length flags ≡ length old.touched → FlagsReached old.heap flags → old.marking ≡ false
       → IsReplayed old Begin Done hint (record old { marking = true; needs_full = false; touched = flags })
   begins flags hint apart size reached m start run f = (
     goes_on run Begin Done (heap_after start run),
@@ -271,7 +242,7 @@ module _ (old : ReplayerContents) (small : old.number < word_end) (few : old.bir
       number = sym (ap (λ k. (k + 0) % word_end) (sym f.number) ∙ same_number old.number small);
       births = f.births;
       room = room_as _ _ _ _ f.room refl size;
-      touched = λ marks. begin_tell start run old.core f.stands (apart (heap_after start run) f.stands) flags (room_as _ _ _ _ f.room (sym f.stands.pages) size) reached;
+      touched = λ marks. begin_tell start run old.heap f.stands (apart (heap_after start run) f.stands) flags (room_as _ _ _ _ f.room (sym f.stands.pages) size) reached;
       aged_room = f.aged_room;
       past = f.past;
       aged = f.aged;
@@ -279,7 +250,7 @@ module _ (old : ReplayerContents) (small : old.number < word_end) (few : old.bir
   )
 
   -- a cycle begins with the marks of the last one
-  pub begins_partial : (flags : List Bool) (hint : Hint) → AreApartIn old.core → length flags ≡ length old.touched → FlagsClosure old.core old.aged flags → old.marking ≡ false → old.needs_full ≡ false
+  pub begins_partial : (flags : List Bool) (hint : Hint) → AreApartIn old.heap → length flags ≡ length old.touched → FlagsClosure old.heap old.aged flags → old.marking ≡ false → old.needs_full ≡ false
       → IsReplayed old BeginPartial Done hint (record old { marking = true; touched = flags })
   begins_partial flags hint apart size closure m none start run f = (
     goes_on run BeginPartial Done (heap_after start run),
@@ -298,7 +269,7 @@ module _ (old : ReplayerContents) (small : old.number < word_end) (few : old.bir
       births = f.births;
       room = room_as _ _ _ _ f.room refl size;
       touched = λ marks.
-          partial_tell start run old.core f.stands (apart (heap_after start run) f.stands) old.aged flags f.aged (room_as _ _ _ _ f.room (sym f.stands.pages) size) closure;
+          partial_tell start run old.heap f.stands (apart (heap_after start run) f.stands) old.aged flags f.aged (room_as _ _ _ _ f.room (sym f.stands.pages) size) closure;
       aged_room = f.aged_room;
       past = f.past;
       aged = f.aged;
@@ -311,63 +282,7 @@ module _ (old : ReplayerContents) (small : old.number < word_end) (few : old.bir
 
   -- what else no reply is
   module _ (reply : Reply) (hint : Hint) where
-    pub no_begin : (old.marking ≡ false → reply ≡ Done → ⊥) → (old.marking ≡ true → reply ≡ Refused WrongPhase → ⊥) → IsNoReplay old Begin reply hint
-    no_begin done wrong start run next f r = stuck reply refl r.line
-      where
-        stuck : (q : Reply) → q ≡ reply → {to : Run} → LineOf start run Begin q to → ⊥
-        stuck q is (LineOf.happens happens) = done (f.phase ∙ happens.0) (sym is ∙ happens.1.0)
-        stuck q is (LineOf.refused phase) = wrong (f.phase ∙ phase) (sym is)
-
-    pub no_partial : (old.marking ≡ false → old.needs_full ≡ false → reply ≡ Done → ⊥) → (old.marking ≡ true → reply ≡ Refused WrongPhase → ⊥) → (old.marking ≡ false → old.needs_full ≡ true → reply ≡ Refused NeedsFull → ⊥)
-        → IsNoReplay old BeginPartial reply hint
-    no_partial done wrong needs start run next f r = stuck reply refl r.line
-      where
-        stuck : (q : Reply) → q ≡ reply → {to : Run} → LineOf start run BeginPartial q to → ⊥
-        stuck q is (LineOf.happens happens) = done (f.phase ∙ happens.0) (f.needs ∙ happens.1) (sym is ∙ happens.2.0)
-        stuck q is (LineOf.refused phase) = wrong (f.phase ∙ phase) (sym is)
-        stuck q is (LineOf.needs m need) = needs (f.phase ∙ m) (f.needs ∙ need) (sym is)
-
-    pub no_roots : (old.marking ≡ true → reply ≡ Done → ⊥) → (old.marking ≡ false → reply ≡ Refused WrongPhase → ⊥) → IsNoReplay old Roots reply hint
-    no_roots done wrong start run next f r = stuck reply refl r.line
-      where
-        stuck : (q : Reply) → q ≡ reply → {to : Run} → LineOf start run Roots q to → ⊥
-        stuck q is (LineOf.happens happens) = happens
-        stuck q is (LineOf.refused phase) = wrong (f.phase ∙ phase) (sym is)
-        stuck q is (LineOf.roots m) = done (f.phase ∙ m) (sym is)
-
-    pub no_mark : (most : ℕ) → (old.marking ≡ true → (n : ℕ) → n ≤ most → reply ≡ Count n → ⊥) → (old.marking ≡ false → reply ≡ Refused WrongPhase → ⊥) → IsNoReplay old (Mark most) reply hint
-    no_mark most none wrong start run next f r = stuck reply refl r.line
-      where
-        stuck : (q : Reply) → q ≡ reply → {to : Run} → LineOf start run (Mark most) q to → ⊥
-        stuck q is (LineOf.happens happens) = happens
-        stuck q is (LineOf.refused phase) = wrong (f.phase ∙ phase) (sym is)
-        stuck q is (LineOf.mark {n = n} m few_words) = none (f.phase ∙ m) n few_words (sym is)
-
-    pub no_retrace : (old.marking ≡ true → (n : ℕ) → n ≤ 1 → reply ≡ Count n → ⊥) → (old.marking ≡ false → reply ≡ Refused WrongPhase → ⊥) → IsNoReplay old Retrace reply hint
-    no_retrace none wrong start run next f r = stuck reply refl r.line
-      where
-        stuck : (q : Reply) → q ≡ reply → {to : Run} → LineOf start run Retrace q to → ⊥
-        stuck q is (LineOf.happens happens) = happens
-        stuck q is (LineOf.refused phase) = wrong (f.phase ∙ phase) (sym is)
-        stuck q is (LineOf.retrace {n = n} m one) = none (f.phase ∙ m) n one (sym is)
-
-    pub no_sweep : ((n : ℕ) → n ≤ 1 → reply ≡ Count n → ⊥) → IsNoReplay old Sweep reply hint
-    no_sweep none start run next f r = stuck reply refl r.line
-      where
-        stuck : (q : Reply) → q ≡ reply → {to : Run} → LineOf start run Sweep q to → ⊥
-        stuck q is (LineOf.happens happens) = happens
-        stuck q is (LineOf.refused phase) = phase
-        stuck q is (LineOf.sweep {n = n} one) = none n one (sym is)
-
-    pub no_number : (reply ≡ Count old.number → ⊥) → IsNoReplay old Number reply hint
-    no_number none start run next f r = stuck reply refl r.line
-      where
-        stuck : (q : Reply) → q ≡ reply → {to : Run} → LineOf start run Number q to → ⊥
-        stuck q is (LineOf.happens happens) = happens
-        stuck q is (LineOf.refused phase) = phase
-        stuck q is LineOf.number = none (sym is ∙ ap Count (sym f.number))
-
-    pub no_finish : (old.marking ≡ false → reply ≡ Refused WrongPhase → ⊥) → (old.marking ≡ true → (s : Heap) → StandsFor old.core s → (n : ℕ) (s' : Heap) → reply ≡ Count n → NamesBases hint n s s' → (theirs : List ℕ) → s' ≡ without s theirs → NamesUnflagged old.core.origin s old.touched theirs → ⊥)
+    pub no_finish : (old.marking ≡ false → reply ≡ Refused WrongPhase → ⊥) → (old.marking ≡ true → (s : Heap) → StandsFor old.heap s → (n : ℕ) (s' : Heap) → reply ≡ Count n → NamesBases hint n s s' → (theirs : List ℕ) → s' ≡ without s theirs → NamesUnflagged old.heap.origin s old.touched theirs → ⊥)
         → IsNoReplay old Finish reply hint
     no_finish wrong none start run next f r = stuck reply refl r.line r.finished
       where
@@ -380,7 +295,7 @@ module _ (old : ReplayerContents) (small : old.number < word_end) (few : old.bir
             (λ base o has out. happens.1.untouched base o has (λ t. out ((f.touched (f.phase ∙ happens.0) base o has).1 t)))
         stuck q is (LineOf.refused phase) names = wrong (f.phase ∙ phase) (sym is)
 
-    pub no_collect : ((s : Heap) → StandsFor old.core s → (n : ℕ) (s' : Heap) → reply ≡ Count n → MayNameBases hint n s s' → CollectsFully s reply s' → ⊥) → IsNoReplay old Collect reply hint
+    pub no_collect : ((s : Heap) → StandsFor old.heap s → (n : ℕ) (s' : Heap) → reply ≡ Count n → MayNameBases hint n s s' → CollectsFully s reply s' → ⊥) → IsNoReplay old Collect reply hint
     no_collect none start run next f r = stuck reply refl r.line r.collected
       where
         stuck : (q : Reply) → q ≡ reply → {to : Run} → LineOf start run Collect q to

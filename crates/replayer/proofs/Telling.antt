@@ -14,10 +14,10 @@ use Rattle.heap_spec.specs.Steps.{Attaches, Calls}
 use Rattle.heap_spec.specs.Touching.{LedTo, HasNewborn, IsBrought, HasApartObjects}
 use Rattle.heap_spec.proofs.Gaining.{Gains, calls_gain, attach_gain}
 use Rattle.heap_spec.proofs.Touching.{flags_tell, marking_closed, brought_one, calls_refuse}
-use Rattle.plain_core.specs.PlainContents.{PlainContents}
-use Rattle.plain_core.specs.Standing.{StandsFor}
-use Rattle.plain_core.specs.Answering.{IsBornAt}
-use Rattle.plain_core.specs.Flags.{IsFlagged, HasFlags, FlagsReached, FlagsLed, FlagsBrought, LeadsToFlagged}
+use Rattle.plain_heap.specs.PlainContents.{PlainContents}
+use Rattle.plain_heap.specs.Standing.{StandsFor}
+use Rattle.plain_heap.specs.Answering.{IsBornAt}
+use Rattle.plain_heap.specs.Flags.{IsFlagged, HasFlags, FlagsReached, FlagsLed, FlagsBrought, LeadsToFlagged}
 use Rattle.replayer.specs.ReplayerContents.{TellTouched}
 use Rattle.replayer.specs.Replays.{IsGrant}
 

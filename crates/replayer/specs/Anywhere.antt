@@ -10,8 +10,8 @@ use Rattle.heap_spec.specs.Layout.{word_end}
 use Rattle.heap_spec.specs.Heap.{Heap}
 use Rattle.heap_spec.specs.Runs.{Start, Run, heap_after, goes_on}
 use Rattle.heap_spec.specs.Transcripts.{LineOf}
-use Rattle.plain_core.specs.Anywhere.{Requests}
-use Rattle.plain_core.specs.Answering.{IsBornOf}
+use Rattle.plain_heap.specs.Anywhere.{Requests}
+use Rattle.plain_heap.specs.Answering.{IsBornOf}
 use Rattle.replayer.specs.declared.hint.Hint.{Hint}
 use Rattle.replayer.specs.declared.hint.Hint.TheVariants.{Nothing, Place, Forgot}
 use Rattle.replayer.specs.ReplayerContents.{ReplayerContents, Follows}
@@ -45,11 +45,11 @@ pub record IsReplayAnywhere (origin : ℕ) (hint : Hint) (n : ℕ) (start : Star
 
 -- From each run that the replayer followed it is a replay in its own heap, to one that it follows.
 abbrev pub IsReplayedAnywhere : ReplayerContents → Event → Reply → Hint → ℕ → ReplayerContents → Type 0
-IsReplayedAnywhere old event reply hint n new = (start : Start) (run : Run) → Follows old start run → (next : Run) × IsReplayAnywhere old.core.origin hint n start run event reply next × Follows new start next
+IsReplayedAnywhere old event reply hint n new = (start : Start) (run : Run) → Follows old start run → (next : Run) × IsReplayAnywhere old.heap.origin hint n start run event reply next × Follows new start next
 
 -- From no run that the replayer follows it is a replay in its own heap.
 abbrev pub IsNoReplayAnywhere : ReplayerContents → Event → Reply → Hint → ℕ → Type 0
-IsNoReplayAnywhere r event reply hint n = (start : Start) (run next : Run) → Follows r start run → IsReplayAnywhere r.core.origin hint n start run event reply next → ⊥
+IsNoReplayAnywhere r event reply hint n = (start : Start) (run next : Run) → Follows r start run → IsReplayAnywhere r.heap.origin hint n start run event reply next → ⊥
 
 -- The run goes on by the event with this reply, and with no other, where objects may lie anywhere.
 pub record IsTheReplyAnywhere (origin : ℕ) (start : Start) (run : Run) (event : Event) (reply : Reply) : Type 0 where
@@ -58,4 +58,4 @@ pub record IsTheReplyAnywhere (origin : ℕ) (start : Start) (run : Run) (event 
 
 -- Each run that the replayer follows goes on by the event with this reply, and with no other.
 abbrev pub ExpectsAnywhere : ReplayerContents → Event → Reply → Type 0
-ExpectsAnywhere r event reply = (start : Start) (run : Run) → Follows r start run → IsTheReplyAnywhere r.core.origin start run event reply
+ExpectsAnywhere r event reply = (start : Start) (run : Run) → Follows r start run → IsTheReplyAnywhere r.heap.origin start run event reply

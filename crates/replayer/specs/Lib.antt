@@ -1,5 +1,6 @@
 pub mod ReplayerContents
 pub mod Replays
+pub mod Requests
 pub mod Anywhere
 pub mod Laws
 pub mod Expecting

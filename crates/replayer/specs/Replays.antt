@@ -13,7 +13,7 @@ use Rattle.heap_spec.specs.Heap.{Heap}
 use Rattle.heap_spec.specs.Cycles.{TakesOut}
 use Rattle.heap_spec.specs.Runs.{Start, Run, heap_after}
 use Rattle.heap_spec.specs.Transcripts.{LineOf}
-use Rattle.plain_core.specs.Answering.{IsBornAt}
+use Rattle.plain_heap.specs.Answering.{IsBornAt}
 use Rattle.replayer.specs.declared.hint.Hint.{Hint}
 use Rattle.replayer.specs.declared.hint.Hint.TheVariants.{Nothing, Place, Forgot}
 use Rattle.replayer.specs.ReplayerContents.{ReplayerContents, Follows}
@@ -56,7 +56,7 @@ IsReplayed old event reply hint new = (start : Start) (run : Run) → Follows ol
 
 -- a granted request is judged in a heap that begins where those with size classes do
 abbrev pub JudgesGrants : ReplayerContents → Event → Reply → Type 0
-JudgesGrants r event reply = (slot into words : ℕ) (kind : Kind) → event ≡ Mutator slot (Alloc into words kind) → reply ≡ Done → r.core.origin ≡ FIRST_ADDRESS
+JudgesGrants r event reply = (slot into words : ℕ) (kind : Kind) → event ≡ Mutator slot (Alloc into words kind) → reply ≡ Done → r.heap.origin ≡ FIRST_ADDRESS
 
 -- From no run that the replayer follows it is a replay.
 abbrev pub IsNoReplay : ReplayerContents → Event → Reply → Hint → Type 0

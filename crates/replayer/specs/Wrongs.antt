@@ -4,8 +4,8 @@ use Rattle.heap_spec.specs.declared.event.Event.{Event}
 use Rattle.heap_spec.specs.declared.event.Event.TheVariants.{Attach, Mutator, Begin, BeginPartial, Roots, Mark, Retrace, Finish, Sweep, Collect, Number}
 use Rattle.heap_spec.specs.Closure.{Reached}
 use Rattle.heap_spec.specs.Runs.{Start, Run, Touched, heap_after, is_marking}
-use Rattle.plain_core.specs.declared.wrongs.Wrong.{Wrong}
-use Rattle.plain_core.specs.Wrongs.{IsWrong, TellsLowest}
+use Rattle.plain_heap.specs.declared.wrongs.Wrong.{Wrong}
+use Rattle.plain_heap.specs.Wrongs.{IsWrong, TellsLowest}
 use Rattle.replayer.specs.declared.hint.Hint.{Hint}
 use Rattle.replayer.specs.declared.hint.Hint.TheVariants.{Nothing, Place, Forgot}
 use Rattle.replayer.specs.ReplayerContents.{ReplayerContents, Follows}

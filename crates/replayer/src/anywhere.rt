@@ -2,29 +2,22 @@
 ghost use Rattle.std.specs.Prelude.{◌≡◌, ℕ, IfSome, IsTrue, false};
 ghost use Rattle.replayer.specs.declared.hint.Hint.{Hint as HintValue};
 ghost use Rattle.replayer.specs.Anywhere.{IsReplayedAnywhere, IsNoReplayAnywhere, ExpectsAnywhere};
+ghost use Rattle.replayer.specs.Requests.{asks};
 
 use crate::flags::{flag_place, renew};
 use crate::hint::Hint;
 use crate::replayer::Replayer;
+use crate::request::Request;
 use heap_spec::{Call, Event, Reply};
-use plain_core::Extent;
-use words::{Kind, Reg, Slot};
+use plain_heap::Extent;
 
 impl Replayer {
     // A request that was granted, by an object of `length` words at the base of the hint.
-    fn granted_anywhere(
-        &mut self,
-        slot: Slot,
-        into: Reg,
-        words: u64,
-        kind: Kind,
-        hint: Hint,
-        length: u64,
-    ) -> bool
-        ensures yes { IsTrue result → IsReplayedAnywhere self.old (Event.Mutator slot (Call.Alloc into words kind)) Reply.Done hint.entry length self.new }
-        ensures no { result ≡ false → IsNoReplayAnywhere self.old (Event.Mutator slot (Call.Alloc into words kind)) Reply.Done hint.entry length }
+    fn granted_anywhere(&mut self, request: &Request, hint: Hint, length: u64) -> bool
+        ensures yes { IsTrue result → IsReplayedAnywhere self.old (asks request.now) Reply.Done hint.entry length self.new }
+        ensures no { result ≡ false → IsNoReplayAnywhere self.old (asks request.now) Reply.Done hint.entry length }
         ensures same { result ≡ false → self.new ≡ self.old }
-        ensures origin { self.new.core.origin ≡ self.old.core.origin }
+        ensures origin { self.new.heap.origin ≡ self.old.heap.origin }
     {
         self.limits();
         let Hint::Place(base) = hint else {
@@ -33,56 +26,51 @@ impl Replayer {
         if self.is_full() {
             return false;
         }
-        self.core.objects_are_apart();
+        self.heap.objects_are_apart();
+        let kind = request.kind;
         let object = Extent { base, kind, length };
-        if !self.core.alloc_anywhere(slot, into, words, object) {
+        if !self
+            .heap
+            .alloc_anywhere(request.slot, request.into, request.words, object)
+        {
             return false;
         }
-        self.core.objects_are_apart();
-        flag_place(self.marking, &mut self.core, base, &mut self.touched);
-        renew(&self.core, base, &mut self.aged);
+        self.heap.objects_are_apart();
+        flag_place(self.marking, &mut self.heap, base, &mut self.touched);
+        renew(&self.heap, base, &mut self.aged);
         self.births += 1;
         true
     }
 
     // A request that was not granted.
-    fn refused_anywhere(
-        &mut self,
-        slot: Slot,
-        into: Reg,
-        words: u64,
-        kind: Kind,
-        reply: &Reply,
-    ) -> bool
+    fn refused_anywhere(&mut self, request: &Request, reply: &Reply) -> bool
         requires { reply.now ≡ Reply.Done → ⊥ }
-        ensures yes { IsTrue result → (hint : HintValue) (n : ℕ) → IsReplayedAnywhere self.old (Event.Mutator slot (Call.Alloc into words kind)) reply.now hint n self.new }
-        ensures no { result ≡ false → (hint : HintValue) (n : ℕ) → IsNoReplayAnywhere self.old (Event.Mutator slot (Call.Alloc into words kind)) reply.now hint n }
+        ensures yes { IsTrue result → (hint : HintValue) (n : ℕ) → IsReplayedAnywhere self.old (asks request.now) reply.now hint n self.new }
+        ensures no { result ≡ false → (hint : HintValue) (n : ℕ) → IsNoReplayAnywhere self.old (asks request.now) reply.now hint n }
         ensures same { self.new ≡ self.old }
     {
         self.limits();
-        self.core.objects_are_apart();
-        self.core.may_refuse(slot, words, reply)
+        self.heap.objects_are_apart();
+        self.heap.may_refuse(request.slot, request.words, reply)
     }
 
     // A request.
     fn request_anywhere(
         &mut self,
-        slot: Slot,
-        call: (Reg, u64, Kind),
+        request: &Request,
         reply: &Reply,
         hint: Hint,
         length: u64,
     ) -> bool
-        ensures yes { IsTrue result → IsReplayedAnywhere self.old (Event.Mutator slot (Call.Alloc call.0 call.1 call.2)) reply.now hint.entry length self.new }
-        ensures no { result ≡ false → IsNoReplayAnywhere self.old (Event.Mutator slot (Call.Alloc call.0 call.1 call.2)) reply.now hint.entry length }
+        ensures yes { IsTrue result → IsReplayedAnywhere self.old (asks request.now) reply.now hint.entry length self.new }
+        ensures no { result ≡ false → IsNoReplayAnywhere self.old (asks request.now) reply.now hint.entry length }
         ensures same { result ≡ false → self.new ≡ self.old }
-        ensures origin { self.new.core.origin ≡ self.old.core.origin }
+        ensures origin { self.new.heap.origin ≡ self.old.heap.origin }
     {
-        let (into, words, kind) = call;
         let Reply::Done = reply else {
-            return self.refused_anywhere(slot, into, words, kind, reply);
+            return self.refused_anywhere(request, reply);
         };
-        self.granted_anywhere(slot, into, words, kind, hint, length)
+        self.granted_anywhere(request, hint, length)
     }
 
     /// Whether the event with its reply goes on with what was told so far, by the hint, where objects may lie anywhere: the object
@@ -91,7 +79,7 @@ impl Replayer {
         ensures yes { IsTrue result → IsReplayedAnywhere self.old event.now reply.now hint.entry length self.new }
         ensures no { result ≡ false → IsNoReplayAnywhere self.old event.now reply.now hint.entry length }
         ensures same { result ≡ false → self.new ≡ self.old }
-        ensures origin { self.new.core.origin ≡ self.old.core.origin }
+        ensures origin { self.new.heap.origin ≡ self.old.heap.origin }
     {
         let Event::Mutator(slot, call) = *event else {
             return self.step(event, reply, hint);
@@ -99,7 +87,13 @@ impl Replayer {
         let Call::Alloc(into, words, kind) = call else {
             return self.step(event, reply, hint);
         };
-        self.request_anywhere(slot, (into, words, kind), reply, hint, length)
+        let request = Request {
+            slot,
+            into,
+            words,
+            kind,
+        };
+        self.request_anywhere(&request, reply, hint, length)
     }
 
     /// The reply that the event has here where objects may lie anywhere, if this is known to be the only one. Of a request none is

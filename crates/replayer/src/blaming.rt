@@ -1,9 +1,9 @@
 //! What is wrong about the objects that a collection is said to have forgotten, and what keeps one of them. The run stays where it was.
 ghost use Rattle.std.specs.Prelude.{◌≡◌, IfOk};
 ghost use Rattle.heap_spec.specs.Runs.{Start, Run, heap_after};
-ghost use Rattle.plain_core.specs.Keepers.{TellsKeeper};
-ghost use Rattle.plain_core.specs.Paths.{TellsPath};
-ghost use Rattle.plain_core.specs.Wrongs.{TellsLowest};
+ghost use Rattle.plain_heap.specs.Keepers.{TellsKeeper};
+ghost use Rattle.plain_heap.specs.Paths.{TellsPath};
+ghost use Rattle.plain_heap.specs.Wrongs.{TellsLowest};
 ghost use Rattle.replayer.specs.ReplayerContents.{Follows};
 ghost use Rattle.replayer.specs.Wrongs.{IsWrongFinish, IsWrongCollect, TellsWrong};
 
@@ -11,7 +11,7 @@ use crate::flags::wrong_forgotten;
 use crate::hint::Hint;
 use crate::replayer::Replayer;
 use heap_spec::Event;
-use plain_core::{Keeper, PathStep, Wrong};
+use plain_heap::{Keeper, PathStep, Wrong};
 use std::alloc::{AllocError, Global};
 
 impl Replayer {
@@ -23,7 +23,7 @@ impl Replayer {
         if !self.is_marking() {
             return None;
         }
-        wrong_forgotten(&mut self.core, bases, &self.touched)
+        wrong_forgotten(&mut self.heap, bases, &self.touched)
     }
 
     // What is wrong about the bases that a full collection is said to have forgotten.
@@ -31,7 +31,7 @@ impl Replayer {
         ensures wrong { (start : Start) (run : Run) → Follows self.old start run → TellsLowest (IsWrongCollect start run bases.now) result }
         ensures same { self.new ≡ self.old }
     {
-        self.core.wrong_collected(bases)
+        self.heap.wrong_collected(bases)
     }
 
     // What is wrong about an event and its hint, by the kind of the event.
@@ -72,7 +72,7 @@ impl Replayer {
         ensures keeper { (start : Start) (run : Run) → Follows self.old start run → TellsKeeper (heap_after start run) base result }
         ensures same { self.new ≡ self.old }
     {
-        self.core.keeper(base)
+        self.heap.keeper(base)
     }
 
     /// A path from a root to the object with this base, its first step first. `None` exactly if the object isn't reached.
@@ -81,6 +81,6 @@ impl Replayer {
         ensures path { IfOk result (λ path. (start : Start) (run : Run) → Follows self.old start run → TellsPath (heap_after start run) base path) }
         ensures same { self.new ≡ self.old }
     {
-        self.core.path_to(alloc, base)
+        self.heap.path_to(alloc, base)
     }
 }

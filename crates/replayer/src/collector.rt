@@ -108,7 +108,7 @@ impl Replayer {
         ensures yes { IsTrue result → (hint : HintValue) → IsReplayed self.old Event.Begin reply.now hint self.new }
         ensures no { result ≡ false → (hint : HintValue) → IsNoReplay self.old Event.Begin reply.now hint }
         ensures same { result ≡ false → self.new ≡ self.old }
-        ensures origin { self.new.core.origin ≡ self.old.core.origin }
+        ensures origin { self.new.heap.origin ≡ self.old.heap.origin }
     {
         self.limits();
         if self.is_marking() {
@@ -117,8 +117,8 @@ impl Replayer {
         if !is_done(reply) {
             return false;
         }
-        self.core.objects_are_apart();
-        flag_begin(&mut self.core, &mut self.touched);
+        self.heap.objects_are_apart();
+        flag_begin(&mut self.heap, &mut self.touched);
         self.marking = true;
         self.needs_full = false;
         true
@@ -129,7 +129,7 @@ impl Replayer {
         ensures yes { IsTrue result → (hint : HintValue) → IsReplayed self.old Event.BeginPartial reply.now hint self.new }
         ensures no { result ≡ false → (hint : HintValue) → IsNoReplay self.old Event.BeginPartial reply.now hint }
         ensures same { result ≡ false → self.new ≡ self.old }
-        ensures origin { self.new.core.origin ≡ self.old.core.origin }
+        ensures origin { self.new.heap.origin ≡ self.old.heap.origin }
     {
         self.limits();
         if self.is_marking() {
@@ -141,8 +141,8 @@ impl Replayer {
         if !is_done(reply) {
             return false;
         }
-        self.core.objects_are_apart();
-        flag_partial(&mut self.core, &self.aged, &mut self.touched);
+        self.heap.objects_are_apart();
+        flag_partial(&mut self.heap, &self.aged, &mut self.touched);
         self.marking = true;
         true
     }
@@ -218,7 +218,7 @@ impl Replayer {
         ensures yes { IsTrue result → IsReplayed self.old Event.Finish reply.now hint.entry self.new }
         ensures no { result ≡ false → IsNoReplay self.old Event.Finish reply.now hint.entry }
         ensures same { result ≡ false → self.new ≡ self.old }
-        ensures origin { self.new.core.origin ≡ self.old.core.origin }
+        ensures origin { self.new.heap.origin ≡ self.old.heap.origin }
     {
         self.limits();
         if !self.is_marking() {
@@ -227,10 +227,10 @@ impl Replayer {
         let Some(bases) = forgotten(reply, hint) else {
             return false;
         };
-        if !forget(&mut self.core, bases, &self.touched) {
+        if !forget(&mut self.heap, bases, &self.touched) {
             return false;
         }
-        age_all(&self.core, &mut self.aged);
+        age_all(&self.heap, &mut self.aged);
         self.marking = false;
         self.number = self.number.wrapping_add(1);
         true
@@ -241,16 +241,16 @@ impl Replayer {
         ensures yes { IsTrue result → IsReplayed self.old Event.Collect reply.now HintValue.Nothing self.new }
         ensures no { result ≡ false → IsNoReplay self.old Event.Collect reply.now HintValue.Nothing }
         ensures same { result ≡ false → self.new ≡ self.old }
-        ensures origin { self.new.core.origin ≡ self.old.core.origin }
+        ensures origin { self.new.heap.origin ≡ self.old.heap.origin }
     {
         self.limits();
         let Some(n) = count_in(reply) else {
             return false;
         };
-        if !self.core.collect_counted(n) {
+        if !self.heap.collect_counted(n) {
             return false;
         }
-        age_all(&self.core, &mut self.aged);
+        age_all(&self.heap, &mut self.aged);
         self.marking = false;
         self.needs_full = false;
         self.number = self.number.wrapping_add(1);
@@ -263,16 +263,16 @@ impl Replayer {
         ensures yes { IsTrue result → IsReplayed self.old Event.Collect reply.now hint.entry self.new }
         ensures no { result ≡ false → IsNoReplay self.old Event.Collect reply.now hint.entry }
         ensures same { result ≡ false → self.new ≡ self.old }
-        ensures origin { self.new.core.origin ≡ self.old.core.origin }
+        ensures origin { self.new.heap.origin ≡ self.old.heap.origin }
     {
         self.limits();
         let Some(bases) = forgotten(reply, hint) else {
             return false;
         };
-        if !self.core.collect_as(bases) {
+        if !self.heap.collect_as(bases) {
             return false;
         }
-        age_all(&self.core, &mut self.aged);
+        age_all(&self.heap, &mut self.aged);
         self.marking = false;
         self.needs_full = false;
         self.number = self.number.wrapping_add(1);
@@ -284,7 +284,7 @@ impl Replayer {
         ensures yes { IsTrue result → IsReplayed self.old Event.Collect reply.now hint.entry self.new }
         ensures no { result ≡ false → IsNoReplay self.old Event.Collect reply.now hint.entry }
         ensures same { result ≡ false → self.new ≡ self.old }
-        ensures origin { self.new.core.origin ≡ self.old.core.origin }
+        ensures origin { self.new.heap.origin ≡ self.old.heap.origin }
     {
         let Hint::Nothing = hint else {
             return self.collect_named(reply, hint);

@@ -45,7 +45,7 @@ impl Replayer {
         ensures reply { Expects self.old Event.Collect result }
         ensures same { self.new ≡ self.old }
     {
-        Reply::Count(self.core.count_unreached())
+        Reply::Count(self.heap.count_unreached())
     }
 
     // The reply to the end of a cycle where none is marking.
@@ -62,14 +62,14 @@ impl Replayer {
     fn attach_reply(&self) -> Reply
         ensures { Expects self.now Event.Attach result }
     {
-        self.core.attach_reply()
+        self.heap.attach_reply()
     }
 
     // The reply to a call of a mutator.
     fn call_reply(&self, slot: Slot, call: Call) -> Reply
         ensures { Expects self.now (Event.Mutator slot call) result }
     {
-        self.core.call_reply(slot, call)
+        self.heap.call_reply(slot, call)
     }
 
     // The reply to the question for the count of collections.

@@ -1,17 +1,17 @@
 //! What a replayer has, for a caller that shows it. The run stays where it was.
 ghost use Rattle.std.specs.Prelude.{◌≡◌, length};
-ghost use Rattle.plain_core.specs.Flags.{FlagsReached};
+ghost use Rattle.plain_heap.specs.Flags.{FlagsReached};
 
 use crate::flags::flag_begin;
 use crate::replayer::Replayer;
-use plain_core::Core;
+use plain_heap::PlainHeap;
 
 impl Replayer {
     /// The heap that the run has led to.
-    pub fn core(&self) -> &Core
-        ensures { result.now ≡ self.now.core }
+    pub fn heap(&self) -> &PlainHeap
+        ensures { result.now ≡ self.now.heap }
     {
-        &self.core
+        &self.heap
     }
 
     /// How many objects were born.
@@ -31,10 +31,10 @@ impl Replayer {
 
     /// Sets the flags of the reached objects, and no other.
     pub fn flag_reached(&mut self, flags: &mut Vec<bool>)
-        ensures flags { FlagsReached self.old.core flags.new.items }
+        ensures flags { FlagsReached self.old.heap flags.new.items }
         ensures size { length flags.new.items ≡ length flags.old.items }
         ensures same { self.new ≡ self.old }
     {
-        flag_begin(&mut self.core, flags);
+        flag_begin(&mut self.heap, flags);
     }
 }

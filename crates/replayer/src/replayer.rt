@@ -6,20 +6,22 @@ ghost use Rattle.heap_spec.specs.Runs.{opening_start, needs_full_after as needs_
 ghost use Rattle.replayer.specs.ReplayerContents.{Follows};
 ghost use Rattle.replayer.specs.declared.hint.Hint.{Hint as HintValue};
 ghost use Rattle.replayer.specs.Replays.{IsReplayed, IsNoReplay, IsGrant, JudgesGrants};
+ghost use Rattle.replayer.specs.Requests.{asks};
 
 use crate::flags::{flag_call, flag_place, renew};
 use crate::hint::Hint;
+use crate::request::Request;
 use heap_spec::{Call, Event, Reply};
-use plain_core::Core;
+use plain_heap::PlainHeap;
 use std::alloc::Global;
 use std::marker::Model;
 use words::limits::{FIRST_ADDRESS, PAGE_WORDS};
-use words::{Kind, Reg, RunError, Slot};
+use words::{RunError, Slot};
 
 /// A checker of the runs of one heap.
 #[derive(Drop)]
 pub struct Replayer {
-    pub(crate) core: Core,
+    pub(crate) heap: PlainHeap,
     pub(crate) marking: bool,
     pub(crate) needs_full: bool,
     pub(crate) number: u64,
@@ -46,7 +48,7 @@ impl Model for Replayer {
 
     ghost Value = { ReplayerContents };
 
-    ghost view = { λ r. record { core = r.core; marking = r.marking; needs_full = r.needs_full; number = r.number; births = r.births; touched = r.touched.items; aged = r.aged.items } };
+    ghost view = { λ r. record { heap = r.heap; marking = r.marking; needs_full = r.needs_full; number = r.number; births = r.births; touched = r.touched.items; aged = r.aged.items } };
 }
 
 impl Replayer {
@@ -57,7 +59,7 @@ impl Replayer {
     pub fn new(alloc: Global, pages: u32) -> Result<Replayer, RunError>
         requires { (1 ≤ pages) × (pages ≤ MAX_PAGES) }
         ensures opens { IfOk result (λ replayer. Follows replayer (opening_start pages) []) }
-        ensures origin { IfOk result (λ replayer. replayer.core.origin ≡ FIRST_ADDRESS) }
+        ensures origin { IfOk result (λ replayer. replayer.heap.origin ≡ FIRST_ADDRESS) }
     {
         Replayer::new_from(alloc, FIRST_ADDRESS, pages)
     }
@@ -72,9 +74,9 @@ impl Replayer {
         requires past_zero { 0 < origin }
         requires fits { origin + PAGE_BYTES * pages < word_end }
         ensures opens { IfOk result (λ replayer. Follows replayer (opening_start pages) []) }
-        ensures origin { IfOk result (λ replayer. replayer.core.origin ≡ origin) }
+        ensures origin { IfOk result (λ replayer. replayer.heap.origin ≡ origin) }
     {
-        let Ok(core) = Core::new_from(alloc, origin, pages) else {
+        let Ok(heap) = PlainHeap::new_from(alloc, origin, pages) else {
             return Err(RunError::Memory);
         };
         let Ok(touched) = vec![in alloc; false; PAGE_WORDS as usize * pages as usize] else {
@@ -84,7 +86,7 @@ impl Replayer {
             return Err(RunError::Memory);
         };
         Ok(Replayer {
-            core,
+            heap,
             marking: false,
             needs_full: true,
             number: 0,
@@ -103,11 +105,11 @@ impl Replayer {
     }
 
     // A request that was granted at the base of the hint.
-    fn alloc(&mut self, slot: Slot, into: Reg, words: u64, kind: Kind, hint: Hint) -> bool
-        ensures yes { IsTrue result → IsReplayed self.old (Event.Mutator slot (Call.Alloc into words kind)) Reply.Done hint.entry self.new }
-        ensures no { result ≡ false → self.old.core.origin ≡ FIRST_ADDRESS → IsNoReplay self.old (Event.Mutator slot (Call.Alloc into words kind)) Reply.Done hint.entry }
+    fn alloc(&mut self, request: &Request, hint: Hint) -> bool
+        ensures yes { IsTrue result → IsReplayed self.old (asks request.now) Reply.Done hint.entry self.new }
+        ensures no { result ≡ false → self.old.heap.origin ≡ FIRST_ADDRESS → IsNoReplay self.old (asks request.now) Reply.Done hint.entry }
         ensures same { result ≡ false → self.new ≡ self.old }
-        ensures origin { self.new.core.origin ≡ self.old.core.origin }
+        ensures origin { self.new.heap.origin ≡ self.old.heap.origin }
     {
         self.limits();
         let Hint::Place(base) = hint else {
@@ -116,13 +118,19 @@ impl Replayer {
         if self.is_full() {
             return false;
         }
-        self.core.objects_are_apart();
-        if !self.core.alloc_at(slot, into, words, kind, base) {
+        self.heap.objects_are_apart();
+        if !self.heap.alloc_at(
+            request.slot,
+            request.into,
+            request.words,
+            request.kind,
+            base,
+        ) {
             return false;
         }
-        self.core.objects_are_apart();
-        flag_place(self.marking, &mut self.core, base, &mut self.touched);
-        renew(&self.core, base, &mut self.aged);
+        self.heap.objects_are_apart();
+        flag_place(self.marking, &mut self.heap, base, &mut self.touched);
+        renew(&self.heap, base, &mut self.aged);
         self.births += 1;
         true
     }
@@ -133,15 +141,15 @@ impl Replayer {
         ensures yes { IsTrue result → (hint : HintValue) → IsReplayed self.old (Event.Mutator slot call.now) reply.now hint self.new }
         ensures no { result ≡ false → (hint : HintValue) → IsNoReplay self.old (Event.Mutator slot call.now) reply.now hint }
         ensures same { result ≡ false → self.new ≡ self.old }
-        ensures origin { self.new.core.origin ≡ self.old.core.origin }
+        ensures origin { self.new.heap.origin ≡ self.old.heap.origin }
     {
         self.limits();
-        self.core.objects_are_apart();
-        if !self.core.call_as(slot, call, reply) {
+        self.heap.objects_are_apart();
+        if !self.heap.call_as(slot, call, reply) {
             return false;
         }
-        self.core.objects_are_apart();
-        flag_call(self.marking, &mut self.core, slot, call, &mut self.touched);
+        self.heap.objects_are_apart();
+        flag_call(self.marking, &mut self.heap, slot, call, &mut self.touched);
         self.needs_full = needs_full_after(call, reply, self.needs_full);
         true
     }
@@ -151,14 +159,14 @@ impl Replayer {
         ensures yes { IsTrue result → (hint : HintValue) → IsReplayed self.old Event.Attach reply.now hint self.new }
         ensures no { result ≡ false → (hint : HintValue) → IsNoReplay self.old Event.Attach reply.now hint }
         ensures same { result ≡ false → self.new ≡ self.old }
-        ensures origin { self.new.core.origin ≡ self.old.core.origin }
+        ensures origin { self.new.heap.origin ≡ self.old.heap.origin }
     {
         self.limits();
-        self.core.objects_are_apart();
-        if !self.core.attach_as(reply) {
+        self.heap.objects_are_apart();
+        if !self.heap.attach_as(reply) {
             return false;
         }
-        self.core.objects_are_apart();
+        self.heap.objects_are_apart();
         true
     }
 
@@ -167,7 +175,7 @@ impl Replayer {
         ensures yes { IsTrue result → IsReplayed self.old (Event.Mutator slot call.now) reply.now hint.entry self.new }
         ensures no { result ≡ false → JudgesGrants self.old (Event.Mutator slot call.now) reply.now → IsNoReplay self.old (Event.Mutator slot call.now) reply.now hint.entry }
         ensures same { result ≡ false → self.new ≡ self.old }
-        ensures origin { self.new.core.origin ≡ self.old.core.origin }
+        ensures origin { self.new.heap.origin ≡ self.old.heap.origin }
     {
         let Reply::Done = reply else {
             return self.answered(slot, call, reply);
@@ -175,7 +183,13 @@ impl Replayer {
         let Call::Alloc(into, words, kind) = call else {
             return self.answered(slot, call, reply);
         };
-        self.alloc(slot, *into, *words, *kind, hint)
+        let request = Request {
+            slot,
+            into: *into,
+            words: *words,
+            kind: *kind,
+        };
+        self.alloc(&request, hint)
     }
 
     // An event, by its kind.
@@ -183,7 +197,7 @@ impl Replayer {
         ensures yes { IsTrue result → IsReplayed self.old event reply.now hint.entry self.new }
         ensures no { result ≡ false → JudgesGrants self.old event reply.now → IsNoReplay self.old event reply.now hint.entry }
         ensures same { result ≡ false → self.new ≡ self.old }
-        ensures origin { self.new.core.origin ≡ self.old.core.origin }
+        ensures origin { self.new.heap.origin ≡ self.old.heap.origin }
     {
         self.limits();
         match event {
@@ -208,7 +222,7 @@ impl Replayer {
         ensures yes { IsTrue result → IsReplayed self.old event.now reply.now hint.entry self.new }
         ensures no { result ≡ false → JudgesGrants self.old event.now reply.now → IsNoReplay self.old event.now reply.now hint.entry }
         ensures same { result ≡ false → self.new ≡ self.old }
-        ensures origin { self.new.core.origin ≡ self.old.core.origin }
+        ensures origin { self.new.heap.origin ≡ self.old.heap.origin }
     {
         self.replay(*event, reply, hint)
     }

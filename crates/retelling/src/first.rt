@@ -1,11 +1,11 @@
 //! The first sentence on a line that isn't legal.
 use crate::journal::{Journal, line_at, placed};
 use crate::loads::{dead_text, loaded_text};
-use crate::objects::{Birth, Range};
+use crate::objects::Birth;
 use crate::requests::placed_text;
 use crate::texts::{address_text, birth_text, keeper_text, object_text};
 use heap_spec::{Call, Event, Reply};
-use plain_core::{Keeper, Wrong};
+use plain_heap::{Keeper, Wrong};
 use std::alloc::{AllocError, Global};
 use words::{Refusal, Slot};
 use written_runs::{Behind, Judgement, Line, read_line, reply_text};
@@ -120,7 +120,6 @@ fn access_text(
 fn request_text(
     alloc: Global,
     journal: &Journal,
-    range: &Range,
     slot: Slot,
     wanted: u64,
     broken: &Broken,
@@ -146,7 +145,7 @@ fn request_text(
         words,
         line: 0,
     };
-    let text = placed_text(alloc, journal, range, wanted, &new)?;
+    let text = placed_text(alloc, journal, wanted, &new)?;
     Ok(Some(text))
 }
 
@@ -154,7 +153,6 @@ fn request_text(
 fn event_text(
     alloc: Global,
     journal: &Journal,
-    range: &Range,
     broken: &Broken,
 ) -> Result<Option<String>, AllocError> {
     let Event::Mutator(slot, call) = broken.line.event else {
@@ -165,7 +163,7 @@ fn event_text(
             let address = journal.address(slot, at, offset);
             access_text(alloc, journal, address, broken)
         }
-        Call::Alloc(_, wanted, _) => request_text(alloc, journal, range, slot, wanted, broken),
+        Call::Alloc(_, wanted, _) => request_text(alloc, journal, slot, wanted, broken),
         _ => Ok(None),
     }
 }
@@ -174,7 +172,6 @@ fn event_text(
 fn broken_text(
     alloc: Global,
     journal: &Journal,
-    range: &Range,
     line: &Line,
     judgement: &Judgement,
 ) -> Result<String, AllocError> {
@@ -191,20 +188,19 @@ fn broken_text(
         told: told.as_str(),
         expected: judgement.expected,
     };
-    match event_text(alloc, journal, range, &broken)? {
+    match event_text(alloc, journal, &broken)? {
         Some(said) => Ok(said),
         None => count_text(alloc, &broken),
     }
 }
 
-/// What the line of this number did, which the checker says breaks the run of a heap in this range, in one sentence.
+/// What the line of this number did, which the checker says breaks the run, in one sentence. The journal is of the lines before it.
 ///
 /// # Errors
 /// [`AllocError`] if memory was refused.
 pub fn first_text(
     alloc: Global,
     journal: &Journal,
-    range: &Range,
     text: &str,
     number: u64,
     judgement: &Judgement,
@@ -212,8 +208,8 @@ pub fn first_text(
     let Some(line) = line_at(text, number) else {
         return format!(in alloc; "the line may not stand here");
     };
-    match read_line(alloc, range.places, line.as_bytes())? {
-        Some(line) => broken_text(alloc, journal, range, &line, judgement),
+    match read_line(alloc, journal.range.places, line.as_bytes())? {
+        Some(line) => broken_text(alloc, journal, &line, judgement),
         None => format!(in alloc; "the line may not stand here"),
     }
 }

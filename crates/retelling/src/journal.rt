@@ -1,15 +1,17 @@
 //! What the lines of a run told, one after another. They are lines to which the checker has said yes.
-use crate::objects::{Birth, Leave, Place, Put};
+use crate::objects::{Birth, Leave, Place, Put, Range};
 use heap_spec::{Call, Event, Reply};
 use roots::Root;
 use std::alloc::{AllocError, Global};
 use words::limits::REGISTERS;
 use words::{Reg, Slot};
-use written_runs::{Behind, Line, Places, read_line};
+use written_runs::{Behind, Line, read_line};
 
 /// What lines told, by their numbers.
 #[derive(Drop)]
 pub struct Journal {
+    // Where the heap lies.
+    pub(crate) range: Range,
     pub(crate) births: Vec<Birth>,
     pub(crate) leaves: Vec<Leave>,
     pub(crate) puts: Vec<Put>,
@@ -42,9 +44,10 @@ pub(crate) fn placed(behind: &Behind, asked: u64) -> Option<(u64, u64)> {
 }
 
 impl Journal {
-    // A journal of which nothing was told yet.
-    fn new(alloc: Global) -> Result<Journal, AllocError> {
+    // A journal of a heap in this range, of which nothing was told yet.
+    fn new(alloc: Global, range: Range) -> Result<Journal, AllocError> {
         Ok(Journal {
+            range,
             births: Vec::new(alloc),
             leaves: Vec::new(alloc),
             puts: Vec::new(alloc),
@@ -54,24 +57,19 @@ impl Journal {
         })
     }
 
-    /// What the lines of a run tell that stand before the one of this number. Its objects may lie where `places` says.
+    /// What the lines of a run tell that stand before the one of this number. Its heap lies in this range.
     ///
     /// # Errors
     /// [`AllocError`] if memory was refused.
-    pub fn of(
-        alloc: Global,
-        places: Places,
-        text: &str,
-        before: u64,
-    ) -> Result<Journal, AllocError> {
-        let mut journal = Journal::new(alloc)?;
+    pub fn of(alloc: Global, range: Range, text: &str, before: u64) -> Result<Journal, AllocError> {
+        let mut journal = Journal::new(alloc, range)?;
         let mut number = 0u64;
         for line in text.split('\n') {
             number = number.wrapping_add(1);
             if number >= before {
                 return Ok(journal);
             }
-            if let Some(told) = read_line(alloc, places, line.as_bytes())? {
+            if let Some(told) = read_line(alloc, range.places, line.as_bytes())? {
                 journal.happen(number, &told)?;
             }
         }
@@ -146,16 +144,15 @@ impl Journal {
         self.put_register(line, slot, reg, word)
     }
 
-    // A request was granted.
+    // A request was granted by an object at this base of so many words, if its line tells it.
     fn be_born(
         &mut self,
         line: u64,
         slot: Slot,
         into: Reg,
-        asked: u64,
-        behind: &Behind,
+        object: Option<(u64, u64)>,
     ) -> Result<(), AllocError> {
-        let Some((base, words)) = placed(behind, asked) else {
+        let Some((base, words)) = object else {
             return Ok(());
         };
         self.births.push(Birth { base, words, line })?;
@@ -185,16 +182,8 @@ impl Journal {
         Journal::word_address(self.register(slot, at), offset)
     }
 
-    // A register's word was stored.
-    fn store(
-        &mut self,
-        line: u64,
-        slot: Slot,
-        at: Reg,
-        offset: u64,
-        from: Reg,
-    ) -> Result<(), AllocError> {
-        let address = self.address(slot, at, offset);
+    // A register's word was stored at an address.
+    fn store(&mut self, line: u64, slot: Slot, address: u64, from: Reg) -> Result<(), AllocError> {
         self.put(line, Place::InObject(address), self.register(slot, from))
     }
 
@@ -223,8 +212,12 @@ impl Journal {
             }
             Call::Push(from) => self.push(line, slot, from),
             Call::Pop(to) => self.pop(line, slot, to, &told.reply),
-            Call::Store(at, offset, from) => self.store(line, slot, at, offset, from),
-            Call::Alloc(into, asked, _) => self.be_born(line, slot, into, asked, &told.behind),
+            Call::Store(at, offset, from) => {
+                self.store(line, slot, self.address(slot, at, offset), from)
+            }
+            Call::Alloc(into, asked, _) => {
+                self.be_born(line, slot, into, placed(&told.behind, asked))
+            }
             Call::GlobalPut(global, from) => {
                 self.put(
                     line,

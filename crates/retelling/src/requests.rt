@@ -1,6 +1,6 @@
 //! Why an object may not lie where a granted request placed it.
 use crate::journal::Journal;
-use crate::objects::{Birth, Range};
+use crate::objects::Birth;
 use crate::texts::{address_text, birth_text};
 use std::alloc::{AllocError, Global};
 use words::limits::WORD_BYTES;
@@ -9,7 +9,6 @@ use words::limits::WORD_BYTES;
 pub(crate) fn placed_text(
     alloc: Global,
     journal: &Journal,
-    range: &Range,
     asked: u64,
     new: &Birth,
 ) -> Result<String, AllocError> {
@@ -29,6 +28,7 @@ pub(crate) fn placed_text(
             "the new object lies at {place}, which is no multiple of {WORD_BYTES}"
         );
     }
+    let range = journal.range;
     if !range.holds(new) {
         let (from, bytes) = (range.from(), range.bytes());
         return format!(in alloc;

@@ -1,7 +1,7 @@
 //! Objects, places and replies in words.
 use crate::journal::Journal;
 use crate::objects::{Birth, Place};
-use plain_core::{Keeper, PathStep};
+use plain_heap::{Keeper, PathStep};
 use roots::Root;
 use std::alloc::{AllocError, Global};
 

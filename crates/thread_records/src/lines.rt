@@ -37,8 +37,8 @@ fn hint_of(note: &Note) -> Hint<'_>
 // The line of an entry, if the checker goes on by it.
 fn line_of(alloc: Global, replayer: &mut Replayer, entry: &Entry) -> Result<String, RecordError>
     ensures line { IfOk result (λ line. Writes replayer.old entry.now (string_bytes line) replayer.new) }
-    ensures refused { IfErr result (λ error. error ≡ Refused → replayer.old.core.origin ≡ FIRST_ADDRESS → WritesNone replayer.old entry.now) }
-    ensures origin { replayer.new.core.origin ≡ replayer.old.core.origin }
+    ensures refused { IfErr result (λ error. error ≡ Refused → replayer.old.heap.origin ≡ FIRST_ADDRESS → WritesNone replayer.old entry.now) }
+    ensures origin { replayer.new.heap.origin ≡ replayer.old.heap.origin }
 {
     let hint = hint_of(&entry.note);
     if !replayer.step(&entry.call, &entry.reply, hint) {

@@ -1,6 +1,5 @@
 //! The texts of what a line of a run changed.
-ghost use Rattle.std.specs.Prelude.{◌≡◌, ◌++◌, codes, OnOk, string_bytes};
-ghost use Rattle.trace_lines.specs.Texts.{list_text, number_text};
+ghost use Rattle.std.specs.Prelude.{◌≡◌, ◌++◌, OnOk, string_bytes};
 ghost use Rattle.trace_lines.specs.Rows.{change_text};
 
 use crate::record::{

@@ -1,6 +1,5 @@
 //! What has a text in a trace, and lists of it.
-ghost use Rattle.std.specs.Prelude.{◌≡◌, ◌++◌, ℕ, List, OnOk, codes, string_bytes};
-ghost use Rattle.trace_lines.specs.declared.shown.TheConstants.{TEXT_FROM};
+ghost use Rattle.std.specs.Prelude.{◌≡◌, ◌++◌, ℕ, List, OnOk, string_bytes};
 ghost use Rattle.trace_lines.specs.Texts.{number_text, more_text, list_text};
 
 use std::alloc::{AllocError, Global};

@@ -7,7 +7,7 @@ use Rattle.heap_spec.specs.declared.reply.Reply.{Reply}
 use Rattle.heap_spec.specs.declared.reply.Reply.TheVariants.{Done, Slot}
 use Rattle.words.specs.declared.class.Kind.{Kind}
 use Rattle.words.specs.declared.class.Kind.TheVariants.{Normal, PointerFree}
-use Rattle.plain_core.specs.declared.extent.Extent.{Extent}
+use Rattle.plain_heap.specs.declared.extent.Extent.{Extent}
 use Rattle.pages.specs.Memory.{word_index}
 use Rattle.trace_lines.specs.declared.record.NewObject.{NewObject}
 use Rattle.tracing.specs.Sets.{objects_without}

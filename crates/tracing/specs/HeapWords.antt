@@ -9,8 +9,8 @@ use Rattle.heap_spec.specs.declared.reply.Reply.TheVariants.{Done}
 use Rattle.heap_spec.specs.Steps.{address}
 use Rattle.links.specs.declared.row.Link.{Link}
 use Rattle.roots.specs.Roots.{RootSet}
-use Rattle.plain_core.specs.PlainContents.{PlainContents}
-use Rattle.plain_core.specs.Along.{word_of}
+use Rattle.plain_heap.specs.PlainContents.{PlainContents}
+use Rattle.plain_heap.specs.Along.{word_of}
 use Rattle.pages.specs.Memory.{word_index}
 use Rattle.trace_lines.specs.declared.record.Numbered.{Numbered}
 use Rattle.tracing.specs.Sets.{listed}

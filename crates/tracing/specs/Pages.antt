@@ -4,7 +4,7 @@ use Rattle.std.specs.Borrow.{Bor}
 use Rattle.std.specs.Option.{option_map}
 use Rattle.heap_core.specs.CoreContents.{CoreContents}
 use Rattle.heap_core.specs.Looks.{marks_at}
-use Rattle.plain_core.specs.declared.extent.Extent.{Extent}
+use Rattle.plain_heap.specs.declared.extent.Extent.{Extent}
 use Rattle.tracing.specs.declared.knowledge.Knowledge.{Knowledge}
 use Rattle.tracing.specs.declared.knowledge.PageSet.{PageSet}
 use Rattle.tracing.specs.declared.knowledge.PageSet.TheVariants.{Dirty, Carried, Pending}

@@ -1,7 +1,7 @@
 -- Lists of what passes, and how a set becomes another.
 use Rattle.std.specs.Prelude.{◌≡◌, ℕ, Bool, not, Option, Some, None, List, [], ◌∷◌, flat_map, map, if◌then◌else◌, nat_eq}
 use Rattle.std.specs.Set.{is_member}
-use Rattle.plain_core.specs.declared.extent.Extent.{Extent}
+use Rattle.plain_heap.specs.declared.extent.Extent.{Extent}
 use Rattle.pages.specs.Memory.{word_index}
 use Rattle.trace_lines.specs.declared.record.SetChange.{SetChange}
 use Rattle.trace_lines.specs.declared.record.SetChange.TheVariants.{Comes, Goes, Differs, Whole}

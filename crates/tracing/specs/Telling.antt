@@ -9,7 +9,7 @@ use Rattle.heap_spec.specs.Runs.{opening_start}
 use Rattle.heap_core.specs.CoreContents.{CoreContents}
 use Rattle.links.specs.declared.row.Link.{Link}
 use Rattle.roots.specs.Roots.{RootSet}
-use Rattle.plain_core.specs.PlainContents.{PlainContents}
+use Rattle.plain_heap.specs.PlainContents.{PlainContents}
 use Rattle.pages.specs.Memory.{word_index}
 use Rattle.replayer.specs.declared.hint.Hint.{Hint}
 use Rattle.replayer.specs.ReplayerContents.{ReplayerContents, Follows}
@@ -82,8 +82,8 @@ pub record SaysCycle (core : Option (Bor CoreContents)) (roots : RootSet) (event
 pub record SaysLine (core : Option (Bor CoreContents)) (event : Event) (reply : Reply) (c : ReplayerContents) (put : PutWords) (old new : Seen) (l : Leaving) (r : Record) : Type 0 where
   pub objects : SaysObjects event reply old.truth new.truth l c.births r.objects
   pub sets : SaysSets old.truth new.truth old.knowledge new.knowledge r.sets
-  pub words : SaysWords c.core event reply put old.truth.links.items new.truth.links.items r.words
-  pub cycle : SaysCycle core c.core.roots event reply old new r.cycle
+  pub words : SaysWords c.heap event reply put old.truth.links.items new.truth.links.items r.words
+  pub cycle : SaysCycle core c.heap.roots event reply old new r.cycle
 
 -- A tracer: the checker, how many flags of words there is room for, the numbers of the pages, what was seen after the
 -- last line, and the bases of the cells that wait to be swept.
@@ -98,7 +98,7 @@ pub record TracerContents : Type 0 where
 -- objects, there is a flag for each word, and nothing was seen yet.
 pub record IsNewTracer (n : ℕ) (t : TracerContents) : Type 0 where
   pub replayer : Follows t.replayer (opening_start n) []
-  pub begins : t.replayer.core.origin ≡ FIRST_ADDRESS
+  pub begins : t.replayer.heap.origin ≡ FIRST_ADDRESS
   pub room : t.room ≡ PAGE_WORDS * n
   pub pages : t.pages ≡ range_with_len 0 n
   pub seen : IsBlank t.seen
@@ -108,11 +108,11 @@ pub record IsNewTracer (n : ℕ) (t : TracerContents) : Type 0 where
 -- what was seen before became that.
 pub record IsTold (old : TracerContents) (core : Option (Bor CoreContents)) (event : Event) (reply : Reply) (hint : Hint) (r : Record) (new : TracerContents) : Type 0 where
   pub replayed : IsReplayed old.replayer event reply hint new.replayer
-  pub begins : new.replayer.core.origin ≡ FIRST_ADDRESS
+  pub begins : new.replayer.heap.origin ≡ FIRST_ADDRESS
   pub seen : IsSeen core new.replayer old.room old.pages new.seen
   pub leaving : Leaving
   pub parted : IsParted core event old.waiting (bases_of (objects_without old.seen.truth.objects.items new.seen.truth.objects.items)) leaving
-  pub says : SaysLine core event reply new.replayer (words_put old.replayer.core.roots event) old.seen new.seen leaving r
+  pub says : SaysLine core event reply new.replayer (words_put old.replayer.heap.roots event) old.seen new.seen leaving r
   pub waiting : new.waiting ≡ leaving.waiting.items
   pub room : new.room ≡ old.room
   pub pages : new.pages ≡ old.pages

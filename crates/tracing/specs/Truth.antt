@@ -1,8 +1,8 @@
 -- What is true of a heap, as a trace shows it.
 use Rattle.std.specs.Prelude.{◌≡◌, ℕ, Bool, false, List, [], if◌then◌else◌, length, slice_index_or}
-use Rattle.plain_core.specs.declared.extent.Extent.{Extent}
+use Rattle.plain_heap.specs.declared.extent.Extent.{Extent}
 use Rattle.pages.specs.Memory.{word_index}
-use Rattle.plain_core.specs.Flags.{FlagsReached}
+use Rattle.plain_heap.specs.Flags.{FlagsReached}
 use Rattle.replayer.specs.ReplayerContents.{ReplayerContents}
 use Rattle.tracing.specs.declared.truth.Truth.{Truth}
 use Rattle.tracing.specs.Sets.{places_that}
@@ -14,13 +14,13 @@ flagged flags objects = places_that (λ base. slice_index_or flags (word_index b
 -- The objects, which of them are reached and, while a cycle marks, touched, the links, the phase and the count, of a
 -- checker. The reached ones are told by a row of flags of this size.
 pub record IsTrueOf (r : ReplayerContents) (size : ℕ) (t : Truth) : Type 0 where
-  pub objects : t.objects.items ≡ r.core.objects
+  pub objects : t.objects.items ≡ r.heap.objects
   pub flags : List Bool
   pub room : length flags ≡ size
-  pub tells : FlagsReached r.core flags
-  pub reached : t.reached.items ≡ flagged flags r.core.objects
-  pub touched : t.touched.items ≡ (if r.marking then flagged r.touched r.core.objects else [])
-  pub links : t.links.items ≡ r.core.links
+  pub tells : FlagsReached r.heap flags
+  pub reached : t.reached.items ≡ flagged flags r.heap.objects
+  pub touched : t.touched.items ≡ (if r.marking then flagged r.touched r.heap.objects else [])
+  pub links : t.links.items ≡ r.heap.links
   pub marking : t.is_marking ≡ r.marking
   pub count : t.count ≡ r.number
 

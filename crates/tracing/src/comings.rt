@@ -5,7 +5,7 @@ ghost use Rattle.tracing.specs.Comings.{attached_slot, detached_slot, is_pointer
 use crate::places::place_of;
 use crate::sets::objects_without;
 use heap_spec::{Call, Event, Reply};
-use plain_core::Extent;
+use plain_heap::Extent;
 use std::alloc::{AllocError, Global};
 use trace_lines::NewObject;
 use words::Kind;

@@ -8,13 +8,13 @@ use crate::places::place_of;
 use crate::sets::listed;
 use heap_spec::{Call, Event, Reply};
 use links::Link;
-use plain_core::Core;
+use plain_heap::PlainHeap;
 use std::alloc::{AllocError, Global};
 use trace_lines::Numbered;
 
 // The address that a store wrote to, if the event is one and was granted.
-fn stored_at(core: &Core, event: &Event, reply: &Reply) -> Option<u64>
-    ensures { result ≡ stored_by core.now.roots event.now reply.now }
+fn stored_at(heap: &PlainHeap, event: &Event, reply: &Reply) -> Option<u64>
+    ensures { result ≡ stored_by heap.now.roots event.now reply.now }
 {
     let Event::Mutator(slot, Call::Store(at, offset, _)) = event else {
         return None;
@@ -22,7 +22,7 @@ fn stored_at(core: &Core, event: &Event, reply: &Reply) -> Option<u64>
     let Reply::Done = reply else {
         return None;
     };
-    match core.roots().mutator(*slot) {
+    match heap.roots().mutator(*slot) {
         Some(mutator) => Some(mutator.address(*at, *offset)),
         None => None,
     }
@@ -51,14 +51,14 @@ fn addresses_of(alloc: Global, links: &[Link]) -> Result<Vec<u64>, AllocError>
 // The addresses that the event may have written to, where these links are gone.
 fn written_to(
     alloc: Global,
-    core: &Core,
+    heap: &PlainHeap,
     event: &Event,
     reply: &Reply,
     gone: &[Link],
 ) -> Result<Vec<u64>, AllocError>
-    ensures { IfOk result (λ addresses. addresses.items ≡ written_by core.now.roots event.now reply.now gone.now) }
+    ensures { IfOk result (λ addresses. addresses.items ≡ written_by heap.now.roots event.now reply.now gone.now) }
 {
-    let mut addresses = listed(alloc, stored_at(core, event, reply))?;
+    let mut addresses = listed(alloc, stored_at(heap, event, reply))?;
     if !clears(event) {
         return Ok(addresses);
     }
@@ -68,10 +68,10 @@ fn written_to(
 }
 
 // Puts the word at an address behind others, if an object has it.
-fn add_word(words: &mut Vec<Numbered>, core: &Core, address: u64) -> Result<(), AllocError>
-    ensures { OnOk result (words.new.items ≡ words.old.items ++ listed (word_told core.now address)) }
+fn add_word(words: &mut Vec<Numbered>, heap: &PlainHeap, address: u64) -> Result<(), AllocError>
+    ensures { OnOk result (words.new.items ≡ words.old.items ++ listed (word_told heap.now address)) }
 {
-    let Some(word) = core.word(address) else {
+    let Some(word) = heap.word(address) else {
         return Ok(());
     };
     words.push(Numbered {
@@ -84,17 +84,17 @@ fn add_word(words: &mut Vec<Numbered>, core: &Core, address: u64) -> Result<(), 
 /// The words of objects that the event wrote, as they are now, where these links are gone.
 pub(crate) fn wrote(
     alloc: Global,
-    core: &Core,
+    heap: &PlainHeap,
     event: &Event,
     reply: &Reply,
     gone: &[Link],
 ) -> Result<Vec<Numbered>, AllocError>
-    ensures { IfOk result (λ words. words.items ≡ words_told core.now (written_by core.now.roots event.now reply.now gone.now)) }
+    ensures { IfOk result (λ words. words.items ≡ words_told heap.now (written_by heap.now.roots event.now reply.now gone.now)) }
 {
-    let addresses = written_to(alloc, core, event, reply, gone)?;
+    let addresses = written_to(alloc, heap, event, reply, gone)?;
     let mut words = Vec::new(alloc);
     for address in addresses.as_slice() {
-        add_word(&mut words, core, *address)?;
+        add_word(&mut words, heap, *address)?;
     }
     Ok(words)
 }

@@ -10,7 +10,7 @@ use crate::places::place_of;
 use crate::sets::push_if;
 use heap_core::Core;
 use marker::Entry;
-use plain_core::Extent;
+use plain_heap::Extent;
 use std::alloc::{AllocError, Global};
 use trace_lines::EntryAt;
 

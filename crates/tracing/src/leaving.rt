@@ -1,5 +1,5 @@
 //! Where objects go: their cells are free, or wait to be swept.
-ghost use Rattle.std.specs.Prelude.{◌≡◌, ◌++◌, ◌&&◌, not, IfOk};
+ghost use Rattle.std.specs.Prelude.{◌≡◌, ◌&&◌, not, IfOk};
 ghost use Rattle.tracing.specs.Sets.{those_that};
 ghost use Rattle.tracing.specs.Leaving.{IsParted, forgets as is_forgetting, waits as is_waiting};
 

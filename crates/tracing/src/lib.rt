@@ -20,6 +20,7 @@ mod seen;
 mod sets;
 mod stacks;
 mod telling;
+mod told;
 mod tracer;
 mod truth;
 mod words_read;

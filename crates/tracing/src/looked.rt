@@ -4,7 +4,7 @@ ghost use Rattle.roots.specs.Roots.{root_words_of};
 ghost use Rattle.tracing.specs.Looked.{reads_of as read_by};
 
 use heap_spec::{Event, Reply};
-use plain_core::Core;
+use plain_heap::PlainHeap;
 use roots::{RootWords, Roots};
 use std::alloc::{AllocError, Global};
 use trace_lines::Reads;
@@ -21,15 +21,15 @@ fn root_words(alloc: Global, roots: &Roots) -> Result<u64, AllocError>
 /// What an event looked at: of a small step that its reply measures, and of no other.
 pub(crate) fn reads_of(
     alloc: Global,
-    core: &Core,
+    heap: &PlainHeap,
     event: &Event,
     reply: &Reply,
 ) -> Result<Option<Reads>, AllocError>
-    ensures { IfOk result (λ looked. looked ≡ read_by core.now.roots event.now reply.now) }
+    ensures { IfOk result (λ looked. looked ≡ read_by heap.now.roots event.now reply.now) }
 {
     Ok(match (event, reply) {
         (Event::Roots, Reply::Done) => Some(Reads {
-            roots: root_words(alloc, core.roots())?,
+            roots: root_words(alloc, heap.roots())?,
             words: 0,
             pages: 0,
         }),

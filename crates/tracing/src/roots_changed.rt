@@ -5,7 +5,7 @@ ghost use Rattle.heap_spec.specs.Steps.{register};
 ghost use Rattle.tracing.specs.RootWords.{words_put as words_put_of, changed_global, changed_register, event_put, global_of as global_put_of, register_of as register_put_of, there_at};
 
 use heap_spec::Event;
-use plain_core::Core;
+use plain_heap::PlainHeap;
 use trace_lines::{Numbered, RegisterWord};
 use words::{Global, Reg, Slot};
 
@@ -17,18 +17,18 @@ pub(crate) struct PutWords {
 }
 
 // The word of a register, if its slot has a mutator.
-fn word_of(core: &Core, slot: Slot, reg: Reg) -> Option<u64>
-    ensures { result ≡ option_map (λ m. register m reg) (there_at core.now.roots slot) }
+fn word_of(heap: &PlainHeap, slot: Slot, reg: Reg) -> Option<u64>
+    ensures { result ≡ option_map (λ m. register m reg) (there_at heap.now.roots slot) }
 {
-    match core.roots().mutator(slot) {
+    match heap.roots().mutator(slot) {
         Some(mutator) => Some(mutator.word(reg)),
         None => None,
     }
 }
 
 // The register that an event may change, with its word.
-fn register_of(core: &Core, event: &Event) -> Option<RegisterWord>
-    ensures { result ≡ register_put_of core.now.roots event.now }
+fn register_of(heap: &PlainHeap, event: &Event) -> Option<RegisterWord>
+    ensures { result ≡ register_put_of heap.now.roots event.now }
 {
     let Event::Mutator(slot, call) = event else {
         return None;
@@ -36,7 +36,7 @@ fn register_of(core: &Core, event: &Event) -> Option<RegisterWord>
     let Some(reg) = call.written_register() else {
         return None;
     };
-    let Some(word) = word_of(core, *slot, reg) else {
+    let Some(word) = word_of(heap, *slot, reg) else {
         return None;
     };
     Some(RegisterWord {
@@ -57,25 +57,25 @@ fn global_put(event: &Event) -> Option<Global>
 }
 
 // The global that an event may change, with its word.
-fn global_of(core: &Core, event: &Event) -> Option<Numbered>
-    ensures { result ≡ global_put_of core.now.roots event.now }
+fn global_of(heap: &PlainHeap, event: &Event) -> Option<Numbered>
+    ensures { result ≡ global_put_of heap.now.roots event.now }
 {
     let Some(global) = global_put(event) else {
         return None;
     };
     Some(Numbered {
         number: u64::from(global.number()),
-        word: core.roots().global(global),
+        word: heap.roots().global(global),
     })
 }
 
-/// What an event may put a word into, as it is in a core.
-pub(crate) fn words_put(core: &Core, event: &Event) -> PutWords
-    ensures { result ≡ words_put_of core.now.roots event.now }
+/// What an event may put a word into, as it is in a heap.
+pub(crate) fn words_put(heap: &PlainHeap, event: &Event) -> PutWords
+    ensures { result ≡ words_put_of heap.now.roots event.now }
 {
     PutWords {
-        register: register_of(core, event),
-        global: global_of(core, event),
+        register: register_of(heap, event),
+        global: global_of(heap, event),
     }
 }
 

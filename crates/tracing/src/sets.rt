@@ -3,7 +3,7 @@ ghost use Rattle.std.specs.Prelude.{◌≡◌, ◌++◌, ◌∷◌, [], IfOk, On
 ghost use Rattle.std.specs.HashSet.{IsFromIterResult};
 ghost use Rattle.tracing.specs.Sets.{SaysChange, bases_of, listed as listed_of, objects_without as without_of, without};
 
-use plain_core::Extent;
+use plain_heap::Extent;
 use std::alloc::{AllocError, Global};
 use std::collections::HashSet;
 use trace_lines::SetChange;

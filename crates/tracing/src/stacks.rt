@@ -3,7 +3,7 @@ ghost use Rattle.std.specs.Prelude.{◌≡◌, ◌≤◌, drop, length, IfOk};
 ghost use Rattle.tracing.specs.Stacks.{IsTop, SaysStack, stack_step as step_of};
 
 use heap_spec::{Call, Event, Reply};
-use plain_core::Core;
+use plain_heap::PlainHeap;
 use roots::Mutator;
 use std::alloc::{AllocError, Global};
 use trace_lines::StackChange;
@@ -57,15 +57,15 @@ fn top_of(alloc: Global, mutator: &Mutator, step: StackStep) -> Result<StackChan
 /// What was pushed by a step, and how many words are below.
 pub(crate) fn stack_change(
     alloc: Global,
-    core: &Core,
+    heap: &PlainHeap,
     step: Option<StackStep>,
 ) -> Result<Option<StackChange>, AllocError>
-    ensures { IfOk result (SaysStack core.now.roots step) }
+    ensures { IfOk result (SaysStack heap.now.roots step) }
 {
     let Some(step) = step else {
         return Ok(None);
     };
-    let Some(mutator) = core.roots().mutator(step.slot) else {
+    let Some(mutator) = heap.roots().mutator(step.slot) else {
         return Ok(None);
     };
     Ok(Some(top_of(alloc, mutator, step)?))

@@ -8,41 +8,33 @@ use crate::changes::{
 };
 use crate::comings::{attached, born, detached};
 use crate::heap_words::wrote;
-use crate::knowledge::Knowledge;
-use crate::leaving::Leaving;
 use crate::looked::reads_of;
 use crate::places::places_of;
-use crate::roots_changed::{PutWords, global_change, register_change, words_put};
+use crate::roots_changed::{global_change, register_change, words_put};
 use crate::seen::Seen;
 use crate::sets::{listed, set_change};
 use crate::stacks::{stack_change, stack_step};
-use crate::truth::Truth;
+use crate::told::{After, Before, Told};
 use crate::words_read::words_read;
-use heap_core::Core as HeapCore;
-use heap_spec::{Event, Reply};
-use links::Link;
-use plain_core::Core;
-use replayer::Replayer;
 use std::alloc::{AllocError, Global};
 use trace_lines::{CycleChanges, ObjectChanges, Record, SetChange, SetChanges, WordChanges};
 
-// Which mutators and objects come and go, where so many objects were born.
+// Which mutators and objects come and go.
 fn object_changes(
     alloc: Global,
-    event: &Event,
-    reply: &Reply,
-    old: &Truth,
-    new: &Truth,
-    leaving: &Leaving,
-    births: u64,
+    told: &Told<'_>,
+    before: &Before<'_>,
+    after: &After<'_>,
 ) -> Result<ObjectChanges, AllocError>
-    ensures { IfOk result (SaysObjects event.now reply.now old.now new.now leaving.now births) }
+    ensures { IfOk result (SaysObjects told.now.event.now told.now.reply.now before.now.seen.now.truth after.now.seen.now.truth after.now.leaving.now after.now.replayer.now.births) }
 {
+    let (old, new) = (&before.seen.truth, &after.seen.truth);
+    let births = after.replayer.births();
     Ok(ObjectChanges {
-        attached: listed(alloc, attached(reply))?,
-        detached: listed(alloc, detached(event, reply))?,
-        forgotten: places_of(alloc, leaving.forgotten.as_slice())?,
-        freed: places_of(alloc, leaving.freed.as_slice())?,
+        attached: listed(alloc, attached(told.reply))?,
+        detached: listed(alloc, detached(told.event, told.reply))?,
+        forgotten: places_of(alloc, after.leaving.forgotten.as_slice())?,
+        freed: places_of(alloc, after.leaving.freed.as_slice())?,
         born: born(
             alloc,
             old.objects.as_slice(),
@@ -53,42 +45,39 @@ fn object_changes(
 }
 
 // How sets change.
-fn set_changes(
-    alloc: Global,
-    old: &Truth,
-    new: &Truth,
-    known: &Knowledge,
-    now: &Knowledge,
-) -> Result<SetChanges, AllocError>
-    ensures { IfOk result (SaysSets old.now new.now known.now now.now) }
+fn set_changes(alloc: Global, old: &Seen, new: &Seen) -> Result<SetChanges, AllocError>
+    ensures { IfOk result (SaysSets old.now.truth new.now.truth old.now.knowledge new.now.knowledge) }
 {
+    let (was, is) = (&old.truth, &new.truth);
+    let (known, now) = (&old.knowledge, &new.knowledge);
     Ok(SetChanges {
         marked: set_change(alloc, known.marked.as_slice(), now.marked.as_slice())?,
-        reached: set_change(alloc, old.reached.as_slice(), new.reached.as_slice())?,
-        touched: set_change(alloc, old.touched.as_slice(), new.touched.as_slice())?,
+        reached: set_change(alloc, was.reached.as_slice(), is.reached.as_slice())?,
+        touched: set_change(alloc, was.touched.as_slice(), is.touched.as_slice())?,
         dirty: set_change(alloc, known.dirty.as_slice(), now.dirty.as_slice())?,
         carried: set_change(alloc, known.carried.as_slice(), now.carried.as_slice())?,
         pending: set_change(alloc, known.pending.as_slice(), now.pending.as_slice())?,
     })
 }
 
-// Which words change in the core, and how these links became those.
+// Which words change in the heap, and how links do.
 fn word_changes(
     alloc: Global,
-    core: &Core,
-    event: &Event,
-    reply: &Reply,
-    old: &PutWords,
-    links: &[Link],
-    now: &[Link],
+    told: &Told<'_>,
+    before: &Before<'_>,
+    after: &After<'_>,
 ) -> Result<WordChanges, AllocError>
-    ensures { IfOk result (SaysWords core.now event.now reply.now old.now links.now now.now) }
+    ensures { IfOk result (SaysWords after.now.replayer.now.heap told.now.event.now told.now.reply.now before.now.put.now
+        before.now.seen.now.truth.links.items after.now.seen.now.truth.links.items) }
 {
-    let new = words_put(core, event);
+    let (heap, event, reply) = (after.replayer.heap(), told.event, told.reply);
+    let (old, new) = (before.put, words_put(heap, event));
+    let links = before.seen.truth.links.as_slice();
+    let now = after.seen.truth.links.as_slice();
     let gone = links_gone(alloc, links, now)?;
-    let stack = stack_change(alloc, core, stack_step(event, reply))?;
+    let stack = stack_change(alloc, heap, stack_step(event, reply))?;
     Ok(WordChanges {
-        wrote: wrote(alloc, core, event, reply, gone.as_slice())?,
+        wrote: wrote(alloc, heap, event, reply, gone.as_slice())?,
         registers: listed(alloc, register_change(old.register, new.register))?,
         stacks: listed(alloc, stack)?,
         globals: listed(alloc, global_change(old.global, new.global))?,
@@ -96,67 +85,44 @@ fn word_changes(
     })
 }
 
-// How far the collector is, and what the line looked at.
+// How far the collector is, and what the line looked at: how the marked objects became those of now is told.
 fn cycle_changes(
     alloc: Global,
-    collector: Option<&HeapCore>,
-    core: &Core,
-    event: &Event,
-    reply: &Reply,
-    old: &Seen,
-    new: &Seen,
+    told: &Told<'_>,
+    before: &Before<'_>,
+    after: &After<'_>,
     marked: &Option<SetChange>,
 ) -> Result<CycleChanges, AllocError>
-    requires { SaysChange old.now.knowledge.marked.items new.now.knowledge.marked.items marked.now }
-    ensures { IfOk result (SaysCycle collector.entry core.now.roots event.now reply.now old.now new.now) }
+    requires { SaysChange before.now.seen.now.knowledge.marked.items after.now.seen.now.knowledge.marked.items marked.now }
+    ensures { IfOk result (SaysCycle told.now.core after.now.replayer.now.heap.roots told.now.event.now told.now.reply.now before.now.seen.now after.now.seen.now) }
 {
+    let (old, new) = (before.seen, after.seen);
     let (known, now) = (&old.knowledge, &new.knowledge);
+    let heap = after.replayer.heap();
     Ok(CycleChanges {
         entries: entries_change(alloc, known.entries.as_slice(), now.entries.as_slice())?,
         current: current_change(known.current, now.current),
         is_marking: flag_change(old.truth.is_marking, new.truth.is_marking),
         count: number_change(old.truth.count, new.truth.count),
-        read: reads_of(alloc, core, event, reply)?,
-        looked: words_read(alloc, collector, event, reply, known, now, marked)?,
+        read: reads_of(alloc, heap, told.event, told.reply)?,
+        looked: words_read(alloc, told, known, now, marked)?,
     })
 }
 
-/// What is said of an event after which the core, if there is one, and the checker are these: how the words that it
-/// put, and what was seen, became others, where objects left so.
+/// What is said of a line: how what there was before it became what there is after it.
 pub(crate) fn changes(
     alloc: Global,
-    collector: Option<&HeapCore>,
-    event: &Event,
-    reply: &Reply,
-    replayer: &Replayer,
-    put: &PutWords,
-    old: &Seen,
-    new: &Seen,
-    leaving: &Leaving,
+    told: &Told<'_>,
+    before: &Before<'_>,
+    after: &After<'_>,
 ) -> Result<Record, AllocError>
-    ensures { IfOk result (SaysLine collector.entry event.now reply.now replayer.now put.now old.now new.now leaving.now) }
+    ensures { IfOk result (SaysLine told.now.core told.now.event.now told.now.reply.now after.now.replayer.now before.now.put.now
+        before.now.seen.now after.now.seen.now after.now.leaving.now) }
 {
-    let core = replayer.core();
-    let births = replayer.births();
-    let objects = object_changes(alloc, event, reply, &old.truth, &new.truth, leaving, births)?;
-    let sets = set_changes(
-        alloc,
-        &old.truth,
-        &new.truth,
-        &old.knowledge,
-        &new.knowledge,
-    )?;
-    let links = old.truth.links.as_slice();
-    let words = word_changes(
-        alloc,
-        core,
-        event,
-        reply,
-        put,
-        links,
-        new.truth.links.as_slice(),
-    )?;
-    let cycle = cycle_changes(alloc, collector, core, event, reply, old, new, &sets.marked)?;
+    let objects = object_changes(alloc, told, before, after)?;
+    let sets = set_changes(alloc, before.seen, after.seen)?;
+    let words = word_changes(alloc, told, before, after)?;
+    let cycle = cycle_changes(alloc, told, before, after, &sets.marked)?;
     Ok(Record {
         objects,
         sets,

@@ -11,6 +11,7 @@ use crate::roots_changed::words_put;
 use crate::seen::{Seen, seen_now};
 use crate::sets::{bases, objects_without};
 use crate::telling::changes;
+use crate::told::{After, Before, Told};
 use heap_core::Core;
 use heap_spec::{Event, Reply};
 use replayer::{Hint, Replayer};
@@ -41,7 +42,7 @@ impl Model for Tracer {
 
     ghost view = { λ t. record { replayer = t.replayer; room = length t.flags.items; pages = t.pages.items; seen = t.seen; waiting = t.waiting.items } };
 
-    ghost invariant = { λ t. t.replayer.core.origin ≡ FIRST_ADDRESS };
+    ghost invariant = { λ t. t.replayer.heap.origin ≡ FIRST_ADDRESS };
 }
 
 // The numbers of so many pages.
@@ -62,13 +63,12 @@ fn flags_for(alloc: Global, pages: u32) -> Result<Vec<bool>, AllocError>
 // Where the objects went that were there, and the cells that waited.
 fn leaving_from(
     alloc: Global,
-    core: Option<&Core>,
-    event: &Event,
+    told: &Told<'_>,
     waited: &[u64],
     old: &Seen,
     new: &Seen,
 ) -> Result<Leaving, AllocError>
-    ensures { IfOk result (IsParted core.entry event.now waited.now (bases_of (gone_from old.now.truth.objects.items new.now.truth.objects.items))) }
+    ensures { IfOk result (IsParted told.now.core told.now.event.now waited.now (bases_of (gone_from old.now.truth.objects.items new.now.truth.objects.items))) }
 {
     let gone = objects_without(
         alloc,
@@ -76,7 +76,7 @@ fn leaving_from(
         new.truth.objects.as_slice(),
     )?;
     let gone = bases(alloc, gone.as_slice())?;
-    leaving_now(alloc, core, event, waited, gone.as_slice())
+    leaving_now(alloc, told.core, told.event, waited, gone.as_slice())
 }
 
 impl Tracer {
@@ -114,25 +114,25 @@ impl Tracer {
         ensures { IfOk result (λ told. Tells self.old core.entry event.now reply.now hint.entry told self.new) }
     {
         let alloc = self.alloc;
-        let put = words_put(self.replayer.core(), event);
+        let put = words_put(self.replayer.heap(), event);
         if !self.replayer.step(event, reply, hint) {
             return Ok(None);
         }
         let pages = self.pages.as_slice();
         let seen = seen_now(alloc, core, &mut self.replayer, &mut self.flags, pages)?;
         let waited = self.waiting.as_slice();
-        let mut left = leaving_from(alloc, core, event, waited, &self.seen, &seen)?;
-        let record = changes(
-            alloc,
-            core,
-            event,
-            reply,
-            &self.replayer,
-            &put,
-            &self.seen,
-            &seen,
-            &left,
-        )?;
+        let told = Told { core, event, reply };
+        let mut left = leaving_from(alloc, &told, waited, &self.seen, &seen)?;
+        let before = Before {
+            put: &put,
+            seen: &self.seen,
+        };
+        let after = After {
+            replayer: &self.replayer,
+            seen: &seen,
+            leaving: &left,
+        };
+        let record = changes(alloc, &told, &before, &after)?;
         self.seen = seen;
         self.waiting = replace(&mut left.waiting, Vec::new(alloc));
         Ok(Some(record))

@@ -1,11 +1,11 @@
 //! What is true of a heap after a line, asked of the checker.
-ghost use Rattle.std.specs.Prelude.{◌≡◌, [], IfOk, false, length, if◌then◌else◌};
+ghost use Rattle.std.specs.Prelude.{◌≡◌, [], IfOk, length, if◌then◌else◌};
 ghost use Rattle.tracing.specs.Truth.{IsBare, IsTrueOf, flagged as flagged_of};
 
 use crate::places::{is_flagged, place_of};
 use crate::sets::push_if;
 use links::Link;
-use plain_core::{Core, Extent};
+use plain_heap::{Extent, PlainHeap};
 use replayer::Replayer;
 use std::alloc::{AllocError, Global};
 
@@ -43,10 +43,10 @@ impl Truth {
 }
 
 // The objects.
-fn objects_now(alloc: Global, core: &Core) -> Result<Vec<Extent>, AllocError>
-    ensures { IfOk result (λ objects. objects.items ≡ core.now.objects) }
+fn objects_now(alloc: Global, heap: &PlainHeap) -> Result<Vec<Extent>, AllocError>
+    ensures { IfOk result (λ objects. objects.items ≡ heap.now.objects) }
 {
-    core.objects().iter().copied().collect::<Vec<Extent>>(alloc)
+    heap.objects().iter().copied().collect::<Vec<Extent>>(alloc)
 }
 
 // The places of those objects that have their flags.
@@ -64,19 +64,19 @@ fn flagged(alloc: Global, objects: &[Extent], flags: &[bool]) -> Result<Vec<u64>
 // The places of the touched objects, while a cycle marks.
 fn touched(alloc: Global, replayer: &Replayer) -> Result<Vec<u64>, AllocError>
     ensures { IfOk result (λ places. places.items
-        ≡ (if replayer.now.marking then flagged_of replayer.now.touched replayer.now.core.objects else [])) }
+        ≡ (if replayer.now.marking then flagged_of replayer.now.touched replayer.now.heap.objects else [])) }
 {
     if !replayer.is_marking() {
         return Ok(Vec::new(alloc));
     }
-    flagged(alloc, replayer.core().objects(), replayer.touched())
+    flagged(alloc, replayer.heap().objects(), replayer.touched())
 }
 
 // The links that stand.
-fn links_now(alloc: Global, core: &Core) -> Result<Vec<Link>, AllocError>
-    ensures { IfOk result (λ links. links.items ≡ core.now.links) }
+fn links_now(alloc: Global, heap: &PlainHeap) -> Result<Vec<Link>, AllocError>
+    ensures { IfOk result (λ links. links.items ≡ heap.now.links) }
 {
-    core.links().iter().copied().collect::<Vec<Link>>(alloc)
+    heap.links().iter().copied().collect::<Vec<Link>>(alloc)
 }
 
 /// What is true now; `flags` is room for a flag of each word.
@@ -90,12 +90,12 @@ pub(crate) fn truth_now(
     ensures size { length flags.new.items ≡ length flags.old.items }
 {
     replayer.flag_reached(flags);
-    let core = replayer.core();
+    let heap = replayer.heap();
     Ok(Truth {
-        objects: objects_now(alloc, core)?,
-        reached: flagged(alloc, core.objects(), flags.as_slice())?,
+        objects: objects_now(alloc, heap)?,
+        reached: flagged(alloc, heap.objects(), flags.as_slice())?,
         touched: touched(alloc, replayer)?,
-        links: links_now(alloc, core)?,
+        links: links_now(alloc, heap)?,
         is_marking: replayer.is_marking(),
         count: replayer.collections(),
     })

@@ -4,13 +4,14 @@
 //! came is seen afterwards: an entry that is begun names its next word, one that waits has no word read, and one that is
 //! gone was read to its object's end. That is wrong only of an object that found no room on the mark stack, since none of
 //! its words is read: then the words are more than the reply counts, and none are told.
-ghost use Rattle.std.specs.Prelude.{◌≡◌, ◌==◌, ◌++◌, ◌∷◌, [], IfOk, OnOk, if◌then◌else◌, sum_by};
+ghost use Rattle.std.specs.Prelude.{◌≡◌, ◌==◌, ◌++◌, IfOk, OnOk, sum_by};
 ghost use Rattle.marker.specs.Work.{read_of};
 ghost use Rattle.tracing.specs.Looked.{entries_read as entries_of, kept_from, looked_by, read_to as read_to_of, run_of, runs_of, unbegun_to, waits_at};
 ghost use Rattle.tracing.specs.Sets.{SaysChange, listed as listed_of};
 
 use crate::knowledge::Knowledge;
 use crate::sets::{came, listed};
+use crate::told::Told;
 use block_map::Found;
 use heap_core::Core;
 use heap_spec::{Event, Reply};
@@ -160,20 +161,18 @@ fn are_so_many(runs: &[WordRun], words: u64) -> bool
 /// marked objects became those of now is told.
 pub(crate) fn words_read(
     alloc: Global,
-    core: Option<&Core>,
-    event: &Event,
-    reply: &Reply,
+    told: &Told<'_>,
     old: &Knowledge,
     now: &Knowledge,
     marked: &Option<SetChange>,
 ) -> Result<Vec<WordRun>, AllocError>
     requires { SaysChange old.now.marked.items now.now.marked.items marked.now }
-    ensures { IfOk result (λ runs. runs.items ≡ looked_by core.entry event.now reply.now old.now now.now) }
+    ensures { IfOk result (λ runs. runs.items ≡ looked_by told.now.core told.now.event.now told.now.reply.now old.now now.now) }
 {
-    let Some(core) = core else {
+    let Some(core) = told.core else {
         return Ok(Vec::new(alloc));
     };
-    let (Event::Mark(_), Reply::Count(words)) = (event, reply) else {
+    let (Event::Mark(_), Reply::Count(words)) = (told.event, told.reply) else {
         return Ok(Vec::new(alloc));
     };
     let marked = came(alloc, old.marked.as_slice(), now.marked.as_slice(), marked)?;

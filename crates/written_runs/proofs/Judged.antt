@@ -10,16 +10,15 @@ use Rattle.scripts.specs.Reading.{IsPlainLine}
 use Rattle.heap_spec.specs.declared.reply.Reply.{Reply}
 use Rattle.heap_spec.specs.Runs.{Start, Run, opening_start, heap_after}
 use Rattle.replayer.specs.ReplayerContents.{ReplayerContents, Follows}
-use Rattle.plain_core.specs.declared.keepers.Keeper.{Keeper}
-use Rattle.plain_core.specs.declared.paths.PathStep.{PathStep}
-use Rattle.plain_core.specs.declared.wrongs.Wrong.{Wrong}
+use Rattle.plain_heap.specs.declared.paths.PathStep.{PathStep}
+use Rattle.plain_heap.specs.declared.wrongs.Wrong.{Wrong}
 use Rattle.scripts.specs.Lines.{newline, lines_of}
 use Rattle.scripts.proofs.Texts.{lines_of-line, lines_of-last}
 use Rattle.written_runs.specs.declared.places.Places.{Places}
 use Rattle.written_runs.specs.declared.verdict.Verdict.TheVariants.{Legal, NoLines, Bad, Breaks}
 use Rattle.written_runs.specs.declared.verdict.Verdict.{Verdict}
-use Rattle.written_runs.specs.Finding.{Takes, IsToldAt, IsLineVerdict, IsLineExplained, IsLineBlamed, IsLineTraced}
-use Rattle.written_runs.specs.Judging.{Leads, ends, on, IsBroken, HasFault, IsJudged, HadToAnswer, IsExplained, IsWrongLine, IsBlamed, IsWayTo, IsTracedBack}
+use Rattle.written_runs.specs.Finding.{Takes, IsToldAt, IsLineVerdict, IsLineExplained, IsLineTraced}
+use Rattle.written_runs.specs.Judging.{Leads, ends, on, IsBroken, HasFault, IsJudged, HadToAnswer, IsExplained, IsWayTo, IsTracedBack}
 use Rattle.written_runs.specs.Ranges.{BeginsBy}
 use Rattle.written_runs.specs.Steps.{IsUnwritten, TakesOn}
 use Rattle.written_runs.specs.Told.{is_comment, told_lines}
@@ -103,10 +102,6 @@ ended places pages text rest number told replayer u none some =
       some = some;
     }
 
-no_item : (lines : List (List ℕ)) → length lines ≡ 0 → lines ≡ []
-no_item [] none = refl
-no_item (l ∷ lines) none = absurd (omega arith)
-
 -- A line was reached that the replayer doesn't go on by.
 module _ (places : Places) (pages : ℕ) (text rest behind line : List ℕ) (number told : ℕ) (old : ReplayerContents) (u : IsUpTo places pages text rest number told old) (parted : lines_of rest ≡ line ∷ lines_of behind) where
   fault : (Fault : Run → List ℕ → Type 0) (n : ℕ) → IsToldAt n (number + 1) line → Fault u.run line → HasFault places Fault (opening_start pages) (lines_of text) n
@@ -143,17 +138,6 @@ module _ (places : Places) (pages : ℕ) (text rest behind line : List ℕ) (num
     is_written = why.is_written;
     other = why.other;
     expected = why.expected (opening_start pages) u.run u.follows;
-  })
-
-  pub blamed : (verdict : Verdict) (wrong : Option Wrong) (keeper : Option Keeper) → IsLineVerdict places old (number + 1) line verdict → IsLineBlamed places old line verdict wrong keeper → IsBlamed places pages (lines_of text) verdict wrong keeper
-  blamed (Legal count) wrong keeper is has = has
-  blamed NoLines wrong keeper is has = has
-  blamed (Bad n) wrong keeper is has = has
-  blamed (Breaks n rule) wrong keeper is has = fault (IsWrongLine places (opening_start pages) wrong keeper) n is.0 (record {
-    step = has.step;
-    is_written = has.is_written;
-    tells = has.tells (opening_start pages) u.run u.follows;
-    why = has.why (opening_start pages) u.run u.follows;
   })
 
   pub traced : (why : Bool) (verdict : Verdict) (wrong : Option Wrong) (path : Option (Vec PathStep)) → IsLineVerdict places old (number + 1) line verdict → IsLineTraced old why verdict wrong path → IsTracedBack places pages (lines_of text) why verdict wrong path

@@ -7,7 +7,6 @@ pub mod Parting
 pub mod Commands
 pub mod Hints
 pub mod Unwritten
-pub mod Anywhere
 pub mod Judged
 pub mod Arguments
 pub mod Events

@@ -8,7 +8,7 @@ use Rattle.heap_spec.specs.Cycles.{TakesOut}
 use Rattle.heap_spec.specs.Runs.{Start, Run, heap_after}
 use Rattle.heap_spec.specs.Sound.{IsSound}
 use Rattle.heap_spec.specs.Touching.{HasApartObjects}
-use Rattle.plain_core.specs.Answering.{IsBornAt, IsBornOf}
+use Rattle.plain_heap.specs.Answering.{IsBornAt, IsBornOf}
 use Rattle.replayer.specs.Anywhere.{IsReplayAnywhere, NamesObject}
 use Rattle.replayer.specs.declared.hint.Hint.{Hint}
 use Rattle.replayer.specs.declared.hint.Hint.TheVariants.{Nothing, Place, Forgot}

@@ -6,9 +6,9 @@ use Rattle.heap_spec.specs.declared.reply.Reply.{Reply}
 use Rattle.heap_spec.specs.Runs.{Start, Run, heap_after}
 use Rattle.replayer.specs.ReplayerContents.{ReplayerContents, Follows}
 use Rattle.replayer.specs.Wrongs.{TellsWrong}
-use Rattle.plain_core.specs.declared.keepers.Keeper.{Keeper}
-use Rattle.plain_core.specs.declared.wrongs.Wrong.{Wrong}
-use Rattle.plain_core.specs.declared.paths.PathStep.{PathStep}
+use Rattle.plain_heap.specs.declared.keepers.Keeper.{Keeper}
+use Rattle.plain_heap.specs.declared.wrongs.Wrong.{Wrong}
+use Rattle.plain_heap.specs.declared.paths.PathStep.{PathStep}
 use Rattle.written_runs.specs.declared.places.Places.{Places}
 use Rattle.written_runs.specs.declared.rules.Rule.{Rule}
 use Rattle.written_runs.specs.declared.step.Step.{Step}

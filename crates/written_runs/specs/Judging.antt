@@ -5,13 +5,13 @@ use Rattle.heap_spec.specs.declared.reply.Reply.{Reply}
 use Rattle.heap_spec.specs.Heap.{Heap}
 use Rattle.heap_spec.specs.Runs.{Start, Run, opening_start, heap_after}
 use Rattle.replayer.specs.Wrongs.{IsWrongOf}
-use Rattle.plain_core.specs.declared.keepers.Keeper.{Keeper}
-use Rattle.plain_core.specs.declared.wrongs.Wrong.{Wrong}
-use Rattle.plain_core.specs.declared.wrongs.Wrong.TheVariants.{IsMissing, StandsTwice, HasToStay, HasToGo}
-use Rattle.plain_core.specs.Keepers.{TellsKeeper}
-use Rattle.plain_core.specs.declared.paths.PathStep.{PathStep}
-use Rattle.plain_core.specs.Paths.{TellsPath}
-use Rattle.plain_core.specs.Wrongs.{TellsLowest}
+use Rattle.plain_heap.specs.declared.keepers.Keeper.{Keeper}
+use Rattle.plain_heap.specs.declared.wrongs.Wrong.{Wrong}
+use Rattle.plain_heap.specs.declared.wrongs.Wrong.TheVariants.{IsMissing, StandsTwice, HasToStay, HasToGo}
+use Rattle.plain_heap.specs.Keepers.{TellsKeeper}
+use Rattle.plain_heap.specs.declared.paths.PathStep.{PathStep}
+use Rattle.plain_heap.specs.Paths.{TellsPath}
+use Rattle.plain_heap.specs.Wrongs.{TellsLowest}
 use Rattle.written_runs.specs.declared.places.Places.{Places}
 use Rattle.written_runs.specs.declared.rules.Rule.{Rule}
 use Rattle.written_runs.specs.declared.step.Step.{Step}

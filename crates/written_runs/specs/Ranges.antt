@@ -24,4 +24,4 @@ HasRange (Any from) pages = IsRange from pages
 
 -- the heap of the replayer begins there
 abbrev pub BeginsBy : Places → ReplayerContents → Type 0
-BeginsBy places r = r.core.origin ≡ first_of places
+BeginsBy places r = r.heap.origin ≡ first_of places

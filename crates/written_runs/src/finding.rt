@@ -6,7 +6,7 @@ ghost use Rattle.written_runs.specs.Finding.{IsNoStep, IsOnlyReplyTo, IsStepped,
 use crate::places::Places;
 use crate::step::Step;
 use heap_spec::{Event, Reply};
-use plain_core::{Keeper, PathStep, Wrong};
+use plain_heap::{Keeper, PathStep, Wrong};
 use replayer::Replayer;
 use std::alloc::{AllocError, Global};
 

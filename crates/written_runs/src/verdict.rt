@@ -15,7 +15,7 @@ use crate::places::Places;
 use crate::rules::{Rule, rule_of};
 use crate::told::{first_line, is_comment, told_by};
 use heap_spec::Reply;
-use plain_core::{Keeper, PathStep, Wrong};
+use plain_heap::{Keeper, PathStep, Wrong};
 use replayer::Replayer;
 use std::alloc::{AllocError, Global};
 use words::RunError;
@@ -82,23 +82,30 @@ fn unexplained(verdict: Verdict) -> Explained
     }
 }
 
+// A line of a run, as it is written, and its number, from 1.
+#[derive(Clone, Copy)]
+struct Numbered<'a> {
+    number: u64,
+    text: &'a str,
+}
+
 // What is wrong with the next line, if anything is.
 fn judge_line(
     replayer: &mut Replayer,
     alloc: Global,
     places: Places,
     why: bool,
-    number: u64,
-    line: &str,
+    line: &Numbered<'_>,
 ) -> Result<Option<Explained>, AllocError>
     requires begins { BeginsBy places replayer.old }
-    ensures found { IfOk result (λ found. IsLineJudged places replayer.old why number line.now found replayer.new) }
+    ensures found { IfOk result (λ found. IsLineJudged places replayer.old why line.now.number line.now.text.now found replayer.new) }
     ensures begins { BeginsBy places replayer.new }
 {
-    if is_comment(line) {
+    let number = line.number;
+    if is_comment(line.text) {
         return Ok(None);
     }
-    let Some(line) = read_line(alloc, places, line.as_bytes())? else {
+    let Some(line) = read_line(alloc, places, line.text.as_bytes())? else {
         return Ok(Some(unexplained(Verdict::Bad(number))));
     };
     let step = line.step();
@@ -159,7 +166,8 @@ pub fn explain(
         let (line, behind) = first_line(rest);
         number += 1;
         told += told_by(line);
-        if let Some(said) = judge_line(&mut replayer, alloc, places, why, number, line)? {
+        let line = Numbered { number, text: line };
+        if let Some(said) = judge_line(&mut replayer, alloc, places, why, &line)? {
             return Ok(said);
         }
         rest = behind;

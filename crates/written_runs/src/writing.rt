@@ -5,7 +5,7 @@ ghost use Rattle.scripts.specs.Grammar.{IsLineOf};
 ghost use Rattle.written_runs.specs.Written.{answer_of, bases_text, hint_text, IsAnswer, NamesWords, IsWritten};
 
 use heap_spec::Reply;
-use plain_core::{Keeper, PathStep, Wrong};
+use plain_heap::{Keeper, PathStep, Wrong};
 use replayer::Hint;
 use roots::Root;
 use std::alloc::{AllocError, Global};

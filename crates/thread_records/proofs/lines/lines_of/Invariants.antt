@@ -8,4 +8,4 @@ use Rattle.thread_records.proofs.lines.lines_of.Given as goal
 
 -- so far
 abbrev pub invariant-loop-entry : goal.invariant-loop-entry
-invariant-loop-entry l = (run : Run) × AreLines (opening_start l.pages) (take l.entry-index l.entries) (map string_bytes l.lines.items) run × Follows l.replayer (opening_start l.pages) run × (l.replayer.core.origin ≡ FIRST_ADDRESS)
+invariant-loop-entry l = (run : Run) × AreLines (opening_start l.pages) (take l.entry-index l.entries) (map string_bytes l.lines.items) run × Follows l.replayer (opening_start l.pages) run × (l.replayer.heap.origin ≡ FIRST_ADDRESS)

@@ -7,5 +7,5 @@ returns-in_default c = record {
   yes = λ done. c.refused_anywhere.ensures.yes done c.args.hint c.args.length;
   no = λ refused. c.refused_anywhere.ensures.no refused c.args.hint c.args.length;
   same = λ refused. c.refused_anywhere.ensures.same;
-  origin = ap (λ (r : ReplayerContents). r.core.origin) c.refused_anywhere.ensures.same;
+  origin = ap (λ (r : ReplayerContents). r.heap.origin) c.refused_anywhere.ensures.same;
 }

@@ -1,8 +1,0 @@
-use Rattle.std.proofs.Common.{List}
-use Rattle.plain_core.specs.declared.extent.Extent.{Extent}
-use Rattle.plain_core.proofs.Stays.{IsKept}
-use Rattle.plain_core.proofs.directory.Directory.count_unflagged.Given as goal
-
--- so far
-abbrev pub invariant-loop-index : goal.invariant-loop-index
-invariant-loop-index l = (row : List Extent) × IsKept l.self.objects.items l.flags l.index l.stay row

@@ -1,6 +1,0 @@
-use Rattle.plain_core.proofs.Lowest.{FlaggedSoFar}
-use Rattle.plain_core.proofs.directory.Directory.mark_flagged.Given as goal
-
--- so far
-abbrev pub invariant-loop-index : goal.invariant-loop-index
-invariant-loop-index l = FlaggedSoFar l.self.origin l.self.objects.items l.flags l.index l.marks

@@ -1,7 +1,0 @@
-use Rattle.std.proofs.Common.{◌≡◌, take, length}
-use Rattle.plain_core.specs.Claims.{AreUnset}
-use Rattle.plain_core.proofs.directory.Directory.unset_named.Given as goal
-
--- so far
-abbrev pub invariant-loop-base : goal.invariant-loop-base
-invariant-loop-base l = AreUnset l.self.objects.items (take l.base-index l.bases) l.flags.items × (length l.flags.items ≡ length l.fn.flags.items)

@@ -1,6 +1,0 @@
-use Rattle.plain_core.proofs.Owning.{OwnSoFar}
-use Rattle.plain_core.proofs.owners.write_owners.Given as goal
-
--- so far
-abbrev pub invariant-loop-index : goal.invariant-loop-index
-invariant-loop-index l = OwnSoFar l.origin l.objects l.index l.owners

@@ -1,8 +1,0 @@
-use Rattle.plain_core.proofs.Answering.{can_answer, can_refuse}
-use Rattle.plain_core.proofs.plain.Core.answer.Goals as goal
-
-pub returns-in_default : goal.returns-in_default
-returns-in_default c = can_refuse _ _ _ c.in_default.ensures.none
-
-pub returns : goal.returns
-returns c = can_answer _ _ c.in-Some.mutator.now _ _ c.in-Some.ensures.some c.mutator_answer.ensures

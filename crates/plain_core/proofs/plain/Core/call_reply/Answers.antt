@@ -1,5 +1,0 @@
-use Rattle.plain_core.proofs.Answering.{one_answer}
-use Rattle.plain_core.proofs.plain.Core.call_reply.Goals as goal
-
-pub returns-clause-only : goal.returns-clause-only
-returns-clause-only c other ne = one_answer _ c.laws.ensures _ _ _ _ c.answer.ensures ne
