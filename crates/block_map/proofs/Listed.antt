@@ -5,7 +5,7 @@ use Rattle.std.proofs.lemmas.Bool.{cases_eq}
 use Rattle.words.specs.declared.limits.TheConstants.{PAGE_WORDS}
 use Rattle.blocks.specs.Cells.{Cells}
 use Rattle.blocks.specs.Lists.{link_of, ChangesPage, HasPage, IsFreeCellOf}
-use Rattle.blocks.proofs.Lists.{changes_none, listed_if, maybe_elsewhere, maybe_kept}
+use Rattle.blocks.proofs.Lists.{maybe_elsewhere, maybe_kept}
 use Rattle.block_map.specs.States.{PageState, free, cut, head, body, state_at, LaidAt, IsLaid, IsSpanSet}
 use Rattle.block_map.specs.Listed.{AreListed, IsListedOn}
 use Rattle.block_map.proofs.Spans.{place_of}
@@ -56,6 +56,3 @@ listed_words words words' states size same listed = record {
     by q lt (cut b) is here = maybe_kept words words' q b (λ i at. same q b i lt is at) here
     by q lt (head n k) is here = tt
     by q lt (body p) is here = tt
-
--- a page with a list that stands
-pub ruleset lists = (listed_if)

@@ -1,5 +1,5 @@
 -- Cells of a page that are taken one after the other.
-use Rattle.std.proofs.Common.{◌≡◌, ◌≢◌, ℕ, ◌<◌, true, false, Bool, List, [], length, set, refl, sym, ap, ◌∙◌, subst, arith, length-set, get_or-set_same, get_or-set_other}
+use Rattle.std.proofs.Common.{◌≡◌, ℕ, ◌<◌, true, false, Bool, List, [], length, set, sym, ap, ◌∙◌, subst, arith, length-set, get_or-set_same}
 use Rattle.std.proofs.lemmas.List.{set-set, set-get_or}
 use Rattle.words.specs.declared.class.Kind.{Kind}
 use Rattle.blocks.specs.Lists.{link_of, Pops}
@@ -30,15 +30,3 @@ takes_row {link = link} (Pops.next {row = row} {new = after} {first = first} {la
     (get_or-set_same s p (with_taken words p (state_at s p)) free lt ∙ became_so) in
     let same : set (after_take words s p) p (cut_as c k after last) ≡ set s p (cut_as c k after last) = set-set s p (with_taken words p (state_at s p)) (cut_as c k after last) in
     (TakesCells.next laid (sym begins) has (cell_taken s p (first_on (state_at s p)) n laid lt has) (subst (TakesCells words p (after_take words s p) more) same later.0), subst IsLaid same later.1)
-
--- there are as many pages as before
-pub taken_size : {words : List ℕ} {page : ℕ} {states new : List PageState} {cells : List ℕ} → TakesCells words page states cells new → length new ≡ length states
-taken_size TakesCells.done = refl
-taken_size {words = words} {page = page} (TakesCells.next {states = states} laid at has added rest) =
-    taken_size rest ∙ length-set states page (with_taken words page (state_at states page))
-
--- other pages are as they were
-pub taken_else : {words : List ℕ} {page : ℕ} {states new : List PageState} {cells : List ℕ} → TakesCells words page states cells new → (p : ℕ) → p ≢ page → state_at new p ≡ state_at states p
-taken_else TakesCells.done p ne = refl
-taken_else {words = words} {page = page} (TakesCells.next {states = states} laid at has added rest) p ne =
-    taken_else rest p ne ∙ get_or-set_other states page p (with_taken words page (state_at states page)) free ne

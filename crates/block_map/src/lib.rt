@@ -21,5 +21,5 @@ mod page_list;
 mod walk;
 
 pub use found::{Found, Put, Taken, TakenCells};
-pub use look::object_from;
+pub use look::{object_from, object_in_block};
 pub use map::BlockMap;

@@ -1,6 +1,6 @@
 //! The object that a word points into. No search: the word's page, one look at what stands there, and in a block one
 //! multiplication.
-ghost use Rattle.std.specs.Prelude.{◌≡◌, ℕ, ◌+◌, ◌*◌, ◌%◌, ◌<◌, ◌≤◌, length, IfSome, MatchOption, Option, None, Some};
+ghost use Rattle.std.specs.Prelude.{◌≡◌, ℕ, ◌+◌, ◌*◌, ◌%◌, ◌<◌, ◌≤◌, length, IfSome, MatchOption, Some};
 ghost use Rattle.words.specs.declared.class.Kind.{Kind};
 ghost use Rattle.words.specs.declared.limits.TheConstants.{FIRST_ADDRESS, MOST_PAGES, PAGE_BYTES, WORD_BYTES};
 ghost use Rattle.words.specs.Layout.{page_start, IsOnPage, IsOutside};
@@ -164,13 +164,14 @@ pub fn object_from(page: PageNo, block: &Block, base: u64) -> Option<Found>
     }
 }
 
-// The object of a block with this base. The base isn't computed from the cell again.
+/// The object of a block with this base. It costs less than a look-up of an address. The base isn't computed from the cell again.
 #[inline]
 #[tactic(auto, using(crate::proofs::Finding::on_page))]
-fn object_in_block(page: PageNo, block: &Block, base: u64) -> Found
+pub fn object_in_block(page: PageNo, block: &Block, base: u64) -> Found
     requires page { page < MOST_PAGES }
     requires base { (f : Found) × (found_in_block page block.now base ≡ Some f) × (f.base ≡ base) }
     ensures object { found_in_block page block.now base ≡ Some result }
+    ensures base { result.base ≡ base }
     ensures on_page { result.base % PAGE_BYTES + WORD_BYTES * result.len ≤ PAGE_BYTES }
 {
     Found {

@@ -1,6 +1,6 @@
 //! The map of a heap, seen as the list of what stands on its pages, and through `found_in` as a function from every
 //! word to the object that it points into.
-ghost use Rattle.std.specs.Prelude.{◌≡◌, ℕ, ◌+◌, ◌*◌, ◌<◌, ◌≤◌, true, false, List, length, map, slice_set, take, IfNone, IfSome, MatchBool, Some};
+ghost use Rattle.std.specs.Prelude.{◌≡◌, ℕ, ◌+◌, ◌*◌, ◌<◌, ◌≤◌, true, List, length, slice_set, take, IfNone, IfSome, MatchBool, Some};
 ghost use Rattle.words.specs.declared.limits.TheConstants.{MOST_PAGES, PAGE_GRANULES};
 ghost use Rattle.pages.specs.Opening.{IsOpenedWithin};
 ghost use Rattle.words.specs.Layout.{page_of, page_start};

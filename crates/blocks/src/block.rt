@@ -260,21 +260,6 @@ impl Block {
         self.first = link_free(memory, self.class, page, &self.taken);
     }
 
-    /// Makes each allocated cell free that isn't marked, and the free cells a list in their order.
-    pub fn sweep(&mut self, memory: &mut Memory, page: PageNo, marks: &BitRow)
-        requires page { page < MOST_PAGES }
-        requires has { HasPage memory.old page }
-        requires marks { PAGE_GRANULES * page + PAGE_GRANULES ≤ length marks.now }
-        ensures sweeps { SweepsCells marks.now page self.old self.new }
-        ensures first { IsFirstOrEnd self.new.taken 0 self.new.first }
-        ensures listed { IsListed memory.new page self.new }
-        ensures memory { ChangesFree memory.old memory.new page self.new.class self.new.taken }
-        ensures changes { ChangesPage memory.old memory.new page }
-    {
-        self.keep_marked(page, marks);
-        self.link(memory, page);
-    }
-
     /// How many cells are allocated.
     pub fn allocated(&self) -> u32
         ensures count { result ≡ members self.now.taken }

@@ -1,5 +1,5 @@
 //! The free cells of a page as a list: the first word of each has the number of the next one.
-ghost use Rattle.std.specs.Prelude.{◌≡◌, ◌+◌, ◌*◌, ◌/◌, ◌<◌, ◌≤◌, false, length, replicate};
+ghost use Rattle.std.specs.Prelude.{◌≡◌, ◌+◌, ◌*◌, ◌/◌, ◌<◌, false, length, replicate};
 ghost use Rattle.words.specs.declared.limits.TheConstants.{PAGE_WORDS, MOST_PAGES};
 ghost use Rattle.words.specs.Classes.{IsSizeClass};
 ghost use Rattle.blocks.specs.Lists.{cell_start, link_of, ChangesFree, ChangesPage, HasPage, IsFirstOrEnd, IsLinkedFrom, Lists};

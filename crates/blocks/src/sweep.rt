@@ -1,5 +1,5 @@
 //! Which cells of a page are marked: it goes from one mark to the next, a word of bits at a time.
-ghost use Rattle.std.specs.Prelude.{◌≡◌, ◌+◌, ◌*◌, ◌<◌, ◌≤◌, ℕ, length, MatchOption};
+ghost use Rattle.std.specs.Prelude.{◌+◌, ◌*◌, ◌<◌, ◌≤◌, ℕ, length, MatchOption};
 ghost use Rattle.words.specs.declared.limits.TheConstants.{MOST_PAGES, PAGE_GRANULES};
 ghost use Rattle.blocks.specs.Cells.{IsCells};
 ghost use Rattle.blocks.specs.Sweeps.{BeginsAt, HasMarked};

@@ -1,6 +1,6 @@
 -- How commands end.
 use Rattle.std.proofs.Common.{◌≡◌, ◌⊎◌, ap, inl, inr, ⊎_elim}
-use Rattle.std.specs.Prelude.{Result, Ok, Err, ⊤}
+use Rattle.std.specs.Prelude.{Result, Err, ⊤}
 use Rattle.scripts.specs.declared.errors.ScriptError.{ScriptError}
 use Rattle.scripts.specs.declared.errors.ScriptError.TheVariants.{BadLine as LineIsBad, Read as ReadFailed, Write as WriteFailed, Memory as MemoryRefused}
 use Rattle.programs.specs.declared.fault.Fault.{Fault}

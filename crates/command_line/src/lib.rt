@@ -14,6 +14,7 @@ mod obeying;
 mod recording;
 mod request;
 mod running;
+mod setup;
 
 pub use request::{Request, read_words};
 pub use running::{answer, program};

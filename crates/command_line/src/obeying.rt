@@ -9,7 +9,8 @@ ghost use Rattle.command_line.specs.Obeying.{as_fault, read_faults, HasRead, Has
 
 use crate::recording::run_recorded;
 use crate::request::Request;
-use final_pause::{Helpers, Open};
+use crate::setup::{Recorded, Setup};
+use final_pause::Open;
 use programs::Fault;
 use scripts::{ScriptError, Sink, Source, Std, run_script};
 use std::alloc::Global;
@@ -79,35 +80,40 @@ fn threads<R: Files + Threads + Wait + Sync, O: Sink>(
     rt: &R,
     path: &str,
     output: &mut O,
-    pages: u32,
-    helpers: Helpers,
+    setup: &Setup,
 ) -> Result<(), Fault>
-    requires some { 1 ≤ pages }
-    requires most { pages ≤ MAX_PAGES }
-    ensures does { OfFile (λ (file file' : R.File). RunsWorkload R.File.remaining pages (O.written output.old) (O.written output.new) file file' result) output.old output.new result }
+    requires some { 1 ≤ setup.now.pages }
+    requires most { setup.now.pages ≤ MAX_PAGES }
+    ensures does { OfFile (λ (file file' : R.File). RunsWorkload R.File.remaining setup.now.pages (O.written output.old) (O.written output.new) file file' result) output.old output.new result }
     ensures wrote { HasWritten O.faults result output.old output.new }
 {
     let mut workload = open(rt, path)?;
-    faulted(run_workload(rt, alloc, &mut workload, output, pages, helpers, &Open))
+    faulted(run_workload(
+        rt,
+        alloc,
+        &mut workload,
+        output,
+        setup.pages,
+        setup.helpers,
+        &Open,
+    ))
 }
 
-// Runs the workload in a file, with nobody held back, and then writes the history that its threads made to the file of the second name.
+// Runs the workload in a file, with nobody held back, and then writes down the history that its threads made.
 fn threads_recorded<R: Files + Threads + Wait + Sync, O: Sink>(
     alloc: Global,
     rt: &R,
     path: &str,
     output: &mut O,
-    pages: u32,
-    helpers: Helpers,
-    history: &str,
+    recorded: &Recorded<'_>,
 ) -> Result<(), Fault>
-    requires some { 1 ≤ pages }
-    requires most { pages ≤ MAX_PAGES }
-    ensures does { OfFile (λ (file file' : R.File). RecordsWorkload R.File.remaining pages (O.written output.old) (O.written output.new) file file' result) output.old output.new result }
+    requires some { 1 ≤ recorded.now.setup.pages }
+    requires most { recorded.now.setup.pages ≤ MAX_PAGES }
+    ensures does { OfFile (λ (file file' : R.File). RecordsWorkload R.File.remaining recorded.now.setup.pages (O.written output.old) (O.written output.new) file file' result) output.old output.new result }
     ensures wrote { HasWritten O.faults result output.old output.new }
 {
     let mut workload = open(rt, path)?;
-    run_recorded(alloc, rt, &mut workload, output, pages, helpers, history)
+    run_recorded(alloc, rt, &mut workload, output, recorded)
 }
 
 // Writes a random script.
@@ -142,10 +148,18 @@ pub(crate) fn obey<R: Files + Threads + Wait + Sync, I: Source, O: Sink>(
         Request::Run(pages) => run(alloc, input, output, *pages),
         Request::RunFile(pages, path) => run_file(alloc, rt, path, output, *pages),
         Request::Threads(pages, helpers, path) => {
-            threads(alloc, rt, path, output, *pages, *helpers)
+            let setup = Setup {
+                pages: *pages,
+                helpers: *helpers,
+            };
+            threads(alloc, rt, path, output, &setup)
         }
         Request::Record(pages, helpers, path, history) => {
-            threads_recorded(alloc, rt, path, output, *pages, *helpers, history)
+            let setup = Setup {
+                pages: *pages,
+                helpers: *helpers,
+            };
+            threads_recorded(alloc, rt, path, output, &Recorded { setup, history })
         }
         Request::Stress(seed, mutators, steps) => stress(alloc, output, *seed, *mutators, *steps),
     }

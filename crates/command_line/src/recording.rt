@@ -4,7 +4,8 @@ ghost use Rattle.words.specs.declared.limits.TheConstants.{MAX_PAGES};
 ghost use Rattle.programs.specs.declared.fault.Fault.TheVariants.{WriteFile, NoRun, Memory};
 ghost use Rattle.command_line.specs.Obeying.{HasWritten, RecordsWorkload};
 
-use final_pause::{Helpers, Open};
+use crate::setup::Recorded;
+use final_pause::Open;
 use programs::Fault;
 use scripts::{Sink, Source};
 use std::alloc::Global;
@@ -43,25 +44,25 @@ fn write_lines<F: Files>(
     }
 }
 
-/// Runs the workload in a reader, with nobody held back, and then writes the history that its threads made to the file of this name.
+/// Runs the workload in a reader, with nobody held back, and then writes down the history that its threads made.
 pub(crate) fn run_recorded<R: Files + Threads + Wait + Sync, I: Source, O: Sink>(
     alloc: Global,
     rt: &R,
     input: &mut I,
     output: &mut O,
-    pages: u32,
-    helpers: Helpers,
-    path: &str,
+    recorded: &Recorded<'_>,
 ) -> Result<(), Fault>
-    requires some { 1 ≤ pages }
-    requires most { pages ≤ MAX_PAGES }
-    ensures does { RecordsWorkload I.remaining pages (O.written output.old) (O.written output.new) input.old input.new result }
+    requires some { 1 ≤ recorded.now.setup.pages }
+    requires most { recorded.now.setup.pages ≤ MAX_PAGES }
+    ensures does { RecordsWorkload I.remaining recorded.now.setup.pages (O.written output.old) (O.written output.new) input.old input.new result }
     ensures wrote { HasWritten O.faults result output.old output.new }
 {
     let workload = match Workload::read(alloc, input) {
         Ok(workload) => workload,
         Err(error) => return Err(Fault::of(error)),
     };
+    let pages = recorded.setup.pages;
+    let helpers = recorded.setup.helpers;
     let (replies, lines) = match run_written(rt, alloc, &workload, pages, helpers, &Open) {
         Ok(run) => run,
         Err(error) => return Err(unrecorded(error)),
@@ -69,5 +70,5 @@ pub(crate) fn run_recorded<R: Files + Threads + Wait + Sync, I: Source, O: Sink>
     if let Err(error) = print_replies(&replies, pages, output) {
         return Err(Fault::of(error));
     }
-    write_lines(alloc, rt, path, lines.as_slice())
+    write_lines(alloc, rt, recorded.history, lines.as_slice())
 }

@@ -10,9 +10,8 @@
 #![tactic(auto)]
 
 ghost use Rattle.std.specs.Prelude.{◌≡◌, ℕ, ◌<◌, ◌≤◌, ◌⊎◌, true, false, length, slice_index_or, slice_set, IfOk, IfSome, MatchOption};
-ghost use Rattle.words.specs.Bits.{bits, Has, members, IsClear, IsEmptyFrom, IsFirstFrom};
+ghost use Rattle.words.specs.Bits.{Has, members, IsClear, IsEmptyFrom, IsFirstFrom};
 ghost use Rattle.words.specs.declared.limits.TheConstants.{MOST_PAGES};
-ghost use Rattle.dirty_pages.specs.Summary.{IsOr};
 
 mod row;
 mod summary;
@@ -20,55 +19,51 @@ mod summary;
 pub use row::SummedRow;
 use std::alloc::{AllocError, Global};
 use std::marker::Model;
-use summary::SummedWords;
 use words::PageNo;
 
 /// A set of the pages of a heap.
 #[derive(Drop)]
 pub struct DirtyPages {
-    words: SummedWords,
-    len: u32,
+    row: SummedRow,
 }
 
 impl Model for DirtyPages {
-    ghost use Rattle.std.specs.Prelude.{List, Bool, ◌≡◌, ◌+◌, ◌/◌, ◌≤◌, length};
-    ghost use Rattle.words.specs.Bits.{bits};
+    ghost use Rattle.std.specs.Prelude.{List, Bool, ◌≤◌, length};
     ghost use Rattle.words.specs.declared.limits.TheConstants.{MOST_PAGES};
 
     ghost Value = { List Bool };
 
-    ghost view = { λ d. bits d.words d.len };
+    ghost view = { λ d. d.row };
 
-    ghost invariant = { λ d. (length d.words ≡ d.len / 64 + 1) × (d.len ≤ MOST_PAGES) };
+    ghost invariant = { λ d. length d.row ≤ MOST_PAGES };
 }
 
-#[tactic(auto, using(crate::proofs::Pages::pages))]
 impl DirtyPages {
     /// No page of a heap of so many. The error is that there is no memory.
     pub fn new(alloc: Global, pages: u32) -> Result<DirtyPages, AllocError>
         requires { pages ≤ MOST_PAGES }
         ensures { IfOk result (λ dirty. IsClear dirty pages) }
     {
-        let words = SummedWords::new(alloc, pages as usize / 64 + 1)?;
-        Ok(DirtyPages { words, len: pages })
+        let row = SummedRow::new(alloc, pages as usize)?;
+        Ok(DirtyPages { row })
     }
 
     /// Whether the page is in the set.
+    #[inline]
     pub fn is_dirty(&self, page: PageNo) -> bool
         requires { page < length self.now }
         ensures { result ≡ slice_index_or self.now page false }
     {
-        (self.words.at(page as usize / 64) >> (page as usize % 64)) & 1 == 1
+        self.row.is_set(page as usize)
     }
 
     /// Puts the page into the set.
+    #[inline]
     pub fn set(&mut self, page: PageNo)
         requires { page < length self.old }
         ensures { self.new ≡ slice_set self.old page true }
     {
-        let word = self.words.at(page as usize / 64);
-        self.words
-            .put(page as usize / 64, word | (1 << (page as usize % 64)));
+        self.row.set(page as usize);
     }
 
     /// Takes the page out of the set.
@@ -76,23 +71,21 @@ impl DirtyPages {
         requires { page < length self.old }
         ensures { self.new ≡ slice_set self.old page false }
     {
-        let word = self.words.at(page as usize / 64);
-        self.words
-            .put(page as usize / 64, word & !(1 << (page as usize % 64)));
+        self.row.clear(page as usize);
     }
 
     /// How many pages are in the set. Words of the row that have none are passed over.
     pub fn count(&self) -> u32
         ensures { result ≡ members self.now }
     {
-        self.words.ones(self.len as usize)
+        self.row.count()
     }
 
     /// Takes all pages out of the set.
     pub fn clear_all(&mut self)
         ensures { IsClear self.new (length self.old) }
     {
-        self.words.clear_all();
+        self.row.clear_all();
     }
 
     /// Puts the pages of another set into this one too.
@@ -103,7 +96,7 @@ impl DirtyPages {
         ensures old { (p : ℕ) → Has self.old p → Has self.new p }
         ensures more { (p : ℕ) → Has more.now p → Has self.new p }
     {
-        add_words(&mut self.words, &more.words);
+        self.row.add(&more.row);
     }
 
     /// The least page of the set, and `None` exactly where it is empty.
@@ -111,23 +104,7 @@ impl DirtyPages {
         ensures first { MatchOption result (IsEmptyFrom self.now 0) (λ page. IsFirstFrom self.now 0 page) }
         ensures limit { IfSome result (λ page. page < MOST_PAGES) }
     {
-        let j = self.words.next(0)?;
-        let page = 64 * j as PageNo + self.words.at(j).trailing_zeros();
-        if page < self.len { Some(page) } else { None }
-    }
-}
-
-// Each word becomes the or of both; the words of `more` that are 0 are passed over.
-#[tactic(auto, using(crate::proofs::Adding::adding))]
-fn add_words(words: &mut SummedWords, more: &SummedWords)
-    requires size { length more.now ≡ length words.old }
-    requires few { length words.old ≤ MOST_PAGES }
-    ensures { IsOr words.old more.now words.new }
-{
-    let mut from = 0;
-    while let Some(j) = more.next(from) {
-        let word = words.at(j) | more.at(j);
-        words.put(j, word);
-        from = j + 1;
+        let page = self.row.next(0)?;
+        Some(page as PageNo)
     }
 }

@@ -1,5 +1,5 @@
 //! Words, and a row of bits that says which of them aren't 0. So words of 0 are passed over, 64 of them at a look.
-ghost use Rattle.std.specs.Prelude.{◌≡◌, ℕ, ◌*◌, ◌^◌, ◌<◌, ◌≤◌, List, length, slice_index_or, slice_set, true, IfOk, MatchOption};
+ghost use Rattle.std.specs.Prelude.{◌≡◌, ℕ, ◌*◌, ◌^◌, ◌<◌, List, length, slice_index_or, slice_set, true, IfOk, MatchOption};
 ghost use Rattle.words.specs.Bits.{IsCount, IsFirstBitOf};
 ghost use Rattle.dirty_pages.specs.Summary.{IsSummary, AreUsed, AreZeros, AreZerosBetween, AreZerosFrom, IsLeastWord, IsLeastWordBelow};
 
@@ -41,6 +41,7 @@ impl SummedWords {
     }
 
     // The word j.
+    #[inline]
     pub(crate) fn at(&self, j: usize) -> u64
         requires { j < length self.now }
         ensures { result ≡ slice_index_or self.now j 0 }

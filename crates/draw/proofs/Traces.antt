@@ -12,7 +12,7 @@ use Rattle.scripts.specs.Lines.{newline, lines_of}
 use Rattle.scripts.specs.Turns.{text_of}
 use Rattle.scripts.proofs.Texts.{at-front}
 use Rattle.scripts.proofs.Bytes.{Appends-none, Appends-more}
-use Rattle.plain_core.specs.declared.wrongs.Wrong.{Wrong}
+use Rattle.plain_heap.specs.declared.wrongs.Wrong.{Wrong}
 use Rattle.replayer.specs.declared.hint.Hint.{Hint}
 use Rattle.scripts.specs.Grammar.{IsLineOf}
 use Rattle.written_runs.specs.declared.line.Line.{Line}

@@ -4,8 +4,8 @@ use Rattle.std.specs.Option.{option_map}
 use Rattle.std.specs.declared.alloc.Global.{Global}
 use Rattle.heap_spec.specs.declared.event.Event.{Event}
 use Rattle.heap_spec.specs.declared.reply.Reply.{Reply}
-use Rattle.plain_core.specs.declared.wrongs.Wrong.{Wrong}
-use Rattle.plain_core.specs.declared.wrongs.Wrong.TheVariants.{IsMissing, StandsTwice, HasToStay, HasToGo}
+use Rattle.plain_heap.specs.declared.wrongs.Wrong.{Wrong}
+use Rattle.plain_heap.specs.declared.wrongs.Wrong.TheVariants.{IsMissing, StandsTwice, HasToStay, HasToGo}
 use Rattle.pages.specs.Memory.{word_index}
 use Rattle.replayer.specs.declared.hint.Hint.{Hint}
 use Rattle.written_runs.specs.Written.{IsWritten, answer_of}

@@ -8,7 +8,7 @@ use Rattle.written_runs.specs.declared.places.Places.TheVariants.{Classes}
 use Rattle.written_runs.specs.declared.verdict.Judgement.{Judgement}
 use Rattle.written_runs.specs.declared.verdict.Verdict.{Verdict}
 use Rattle.written_runs.specs.declared.verdict.Verdict.TheVariants.{Legal, NoLines, Bad, Breaks}
-use Rattle.plain_core.specs.declared.wrongs.Wrong.{Wrong}
+use Rattle.plain_heap.specs.declared.wrongs.Wrong.{Wrong}
 use Rattle.written_runs.specs.Judging.{IsBlamed, IsExplained, IsJudged}
 use Rattle.written_runs.specs.Told.{told_lines}
 use Rattle.tracing.specs.Telling.{TracerContents, IsNewTracer}

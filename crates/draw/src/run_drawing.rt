@@ -4,7 +4,7 @@ ghost use Rattle.std.specs.Option.{option_map};
 ghost use Rattle.draw.specs.RunDrawn.{AreSentences, IsRefusalDrawn, IsRunDrawn, SaysReply, SaysWrong, place_about};
 
 use heap_spec::Reply;
-use plain_core::{Keeper, Wrong};
+use plain_heap::{Keeper, Wrong};
 use programs::Fault;
 use std::alloc::{AllocError, Global};
 use trace_lines::{Objection, record_line, refused_line};

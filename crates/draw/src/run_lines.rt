@@ -1,5 +1,5 @@
 //! The lines of a run that was written down, one after another.
-ghost use Rattle.std.specs.Prelude.{◌≡◌, ◌∷◌, [], ◌<◌, ◌≤◌, length, take};
+ghost use Rattle.std.specs.Prelude.{◌≡◌, ◌≤◌, length, take};
 ghost use Rattle.scripts.specs.Lines.{lines_of};
 ghost use Rattle.written_runs.specs.Told.{told_lines};
 

@@ -1,5 +1,5 @@
 //! How a run that was written down is drawn: it is judged, and what is legal of it is written as a trace.
-ghost use Rattle.std.specs.Prelude.{◌≡◌, ◌≤◌, ◌∷◌, [], IfOk, OnOk};
+ghost use Rattle.std.specs.Prelude.{◌≤◌, ◌∷◌, [], IfOk, OnOk};
 ghost use Rattle.std.specs.Io.KnownBytes.{Appends};
 ghost use Rattle.words.specs.declared.limits.TheConstants.{MAX_PAGES};
 ghost use Rattle.scripts.specs.Lines.{lines_of};
@@ -16,6 +16,21 @@ use std::alloc::Global;
 use trace_lines::head_line;
 use tracing::Tracer;
 use written_runs::{Judgement, Rule, Verdict, first_line, judge};
+
+// A run that was written down, of a heap of so many pages.
+#[derive(Clone, Copy)]
+struct Run<'a> {
+    pages: u32,
+    text: &'a str,
+}
+
+// Where a run breaks a rule: the number of the line, the rule, and what the checker says of it.
+#[derive(Clone, Copy)]
+struct Broken<'a> {
+    number: u64,
+    rule: Rule,
+    judgement: &'a Judgement,
+}
 
 // Writes the first line of a trace of so many records, which say nothing of a collector.
 fn put_head<W: Sink>(out: &mut W, alloc: Global, pages: u32, lines: u64) -> Result<(), Fault>
@@ -39,48 +54,43 @@ fn new_tracer(alloc: Global, pages: u32) -> Result<Tracer, Fault>
 }
 
 // Writes the trace of a run that is legal and tells so many lines.
-fn put_whole<W: Sink>(
-    out: &mut W,
-    alloc: Global,
-    pages: u32,
-    run: &str,
-    count: u64,
-) -> Result<(), Fault>
-    requires { (1 ≤ pages) × (pages ≤ MAX_PAGES) }
-    ensures { OnOk result (PutsWholeTrace pages (lines_of run.now) count (W.written out.old) (W.written out.new)) }
+fn put_whole<W: Sink>(out: &mut W, alloc: Global, run: &Run<'_>, count: u64) -> Result<(), Fault>
+    requires { (1 ≤ run.now.pages) × (run.now.pages ≤ MAX_PAGES) }
+    ensures { OnOk result (PutsWholeTrace run.now.pages (lines_of run.now.text.now) count (W.written out.old) (W.written out.new)) }
 {
-    let mut tracer = new_tracer(alloc, pages)?;
-    put_head(out, alloc, pages, count)?;
+    let text = run.text;
+    let mut tracer = new_tracer(alloc, run.pages)?;
+    put_head(out, alloc, run.pages, count)?;
     // A text has no more lines than bytes.
-    let _ = put_records(out, alloc, &mut tracer, run, run.len() as u64)?;
+    let _ = put_records(out, alloc, &mut tracer, text, text.len() as u64)?;
     Ok(())
 }
 
-// Writes the trace of a run that breaks a rule at the line of this number, of which this is said.
+// Writes the trace of a run that breaks a rule, up to the line that does, of which this is said.
 fn put_cut<W: Sink>(
     out: &mut W,
     alloc: Global,
-    pages: u32,
-    run: &str,
-    number: u64,
+    run: &Run<'_>,
+    broken: &Broken<'_>,
     says: Vec<String>,
-    judgement: &Judgement,
 ) -> Result<(), Fault>
-    requires { (1 ≤ pages) × (pages ≤ MAX_PAGES) }
-    ensures { OnOk result (PutsCutTrace pages (lines_of run.now) number says.items judgement.now.wrong (W.written out.old) (W.written out.new)) }
+    requires { (1 ≤ run.now.pages) × (run.now.pages ≤ MAX_PAGES) }
+    ensures { OnOk result (PutsCutTrace run.now.pages (lines_of run.now.text.now) broken.now.number says.items broken.now.judgement.now.wrong
+        (W.written out.old) (W.written out.new)) }
 {
+    let number = broken.number;
     // The judge names a line of the run, counted from 1.
     let Some(before) = number.checked_sub(1) else {
         return Err(Fault::BadLine(number));
     };
-    let mut tracer = new_tracer(alloc, pages)?;
-    put_head(out, alloc, pages, told_among(run, before) + 1)?;
-    let rest = put_records(out, alloc, &mut tracer, run, before)?;
+    let mut tracer = new_tracer(alloc, run.pages)?;
+    put_head(out, alloc, run.pages, told_among(run.text, before) + 1)?;
+    let rest = put_records(out, alloc, &mut tracer, run.text, before)?;
     if rest.is_empty() {
         return Err(Fault::BadLine(number));
     }
     let (line, _) = first_line(rest);
-    let record = refusal_written(alloc, number, line, says, judgement)?;
+    let record = refusal_written(alloc, number, line, says, broken.judgement)?;
     put_line(out, record)
 }
 
@@ -102,24 +112,22 @@ fn say_all(rt: &HostRuntime, number: u64, says: &[String]) -> Result<(), Fault> 
     Ok(())
 }
 
-// Draws a run that breaks this rule at the line of this number, and says what `replay` says.
+// Draws a run that breaks a rule, and says what `replay` says.
 fn draw_broken<W: Sink>(
     rt: &HostRuntime,
     out: &mut W,
-    pages: u32,
-    run: &str,
-    number: u64,
-    rule: Rule,
-    judgement: &Judgement,
+    run: &Run<'_>,
+    broken: &Broken<'_>,
 ) -> Result<(), Fault>
-    requires { (1 ≤ pages) × (pages ≤ MAX_PAGES) }
-    ensures { OnOk result (PutsBrokenTrace pages (lines_of run.now) number judgement.now (W.written out.old) (W.written out.new)) }
+    requires { (1 ≤ run.now.pages) × (run.now.pages ≤ MAX_PAGES) }
+    ensures { OnOk result (PutsBrokenTrace run.now.pages (lines_of run.now.text.now) broken.now.number broken.now.judgement.now
+        (W.written out.old) (W.written out.new)) }
 {
-    let Ok(says) = sentences(rt.alloc(), rule, judgement) else {
+    let Ok(says) = sentences(rt.alloc(), broken.rule, broken.judgement) else {
         return Err(Fault::Memory);
     };
-    say_all(rt, number, says.as_slice())?;
-    put_cut(out, rt.alloc(), pages, run, number, says, judgement)
+    say_all(rt, broken.number, says.as_slice())?;
+    put_cut(out, rt.alloc(), run, broken, says)
 }
 
 /// Draws a run on a heap of so many pages, and gives the status that `replay` gives: what `replay` prints of a run that
@@ -128,17 +136,18 @@ pub(crate) fn draw_run<W: Sink>(
     rt: &HostRuntime,
     out: &mut W,
     pages: u32,
-    run: &str,
+    text: &str,
 ) -> Result<u8, Fault>
     requires { (1 ≤ pages) × (pages ≤ MAX_PAGES) }
-    ensures { IfOk result (λ status. DrawsRun pages (lines_of run.now) status (W.written out.old) (W.written out.new)) }
+    ensures { IfOk result (λ status. DrawsRun pages (lines_of text.now) status (W.written out.old) (W.written out.new)) }
 {
-    let Ok(judgement) = judge(rt.alloc(), pages, run) else {
+    let Ok(judgement) = judge(rt.alloc(), pages, text) else {
         return Err(Fault::Memory);
     };
+    let run = Run { pages, text };
     match judgement.verdict {
         Verdict::Legal(count) => {
-            put_whole(out, rt.alloc(), pages, run, count)?;
+            put_whole(out, rt.alloc(), &run, count)?;
             Ok(0)
         }
         Verdict::NoLines => {
@@ -149,8 +158,13 @@ pub(crate) fn draw_run<W: Sink>(
             Ok(()) => Ok(2),
             Err(_) => Err(Fault::Write),
         },
-        Verdict::Breaks(line, rule) => {
-            draw_broken(rt, out, pages, run, line, rule, &judgement)?;
+        Verdict::Breaks(number, rule) => {
+            let broken = Broken {
+                number,
+                rule,
+                judgement: &judgement,
+            };
+            draw_broken(rt, out, &run, &broken)?;
             Ok(1)
         }
     }

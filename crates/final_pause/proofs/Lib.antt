@@ -10,4 +10,3 @@ pub mod Gathering
 pub mod Marked
 pub mod OwnMarks
 pub mod Numbering
-pub mod Ranks

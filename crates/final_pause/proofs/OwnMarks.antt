@@ -3,7 +3,7 @@ use Rattle.std.proofs.Common.{◌≡◌, ℕ, ◌+◌, ◌-◌, ◌*◌, ◌/◌
 use Rattle.std.specs.Prelude.{◌↔◌, nat_lt}
 use Rattle.std.specs.Int.{bit_at}
 use Rattle.std.specs.Int.RustNames.{bit_and, bit_or}
-use Rattle.std.proofs.lemmas.Bool.{agree_below_at, cases_eq, cases_lt, cond-true, cond-false, eqb-true, eqb-false, eq-eqb}
+use Rattle.std.proofs.lemmas.Bool.{agree_below_at, cases_eq, cases_lt, cond-false, eqb-true, eqb-false, eq-eqb}
 use Rattle.std.proofs.lemmas.Nat.Bits.{bit_at-lt, bit_at-zero, bit_at_and, bit_at_or}
 use Rattle.std.proofs.Math.Nat.{mod-add-mod}
 use Rattle.words.specs.Bits.{Has, HasBit, bits}
@@ -24,10 +24,7 @@ turn_bit i k few lt =
 pub bit_of_all : (k : ℕ) → k < 64 → bit_at 18446744073709551615 k ≡ 1
 bit_of_all k lt = eqb-true _ _ (agree_below_at (λ n. bit_at 18446744073709551615 n == 1) (λ n. true) 64 k refl lt)
 
--- the number of a page that is shared, and of another
-pub turn_shared : (number g : ℕ) → nat_lt number 256 ≡ true → turn_number number g ≡ number + g / 16
-turn_shared number g e = cond-true (nat_lt number 256) (number + g / 16) number e
-
+-- the number of a page that isn't shared
 pub turn_whole : (number g : ℕ) → nat_lt number 256 ≡ false → turn_number number g ≡ number
 turn_whole number g e = cond-false (nat_lt number 256) (number + g / 16) number e
 

@@ -2,7 +2,7 @@
 use Rattle.std.proofs.Common.{◌≡◌, ℕ, ◌+◌, ◌*◌, ◌<◌, ◌≤◌, Bool, List, true, Contains, Some, None, length, refl, sym, ap, subst, ◌∙◌, inl, inr, ⊎_elim, arith}
 use Rattle.std.specs.Prelude.{◌⊎◌}
 use Rattle.std.proofs.lemmas.Option.{same_Some}
-use Rattle.std.proofs.lemmas.Bool.{cases_lt, true≢false}
+use Rattle.std.proofs.lemmas.Bool.{cases_lt}
 use Rattle.words.specs.declared.class.Kind.TheVariants.{Normal}
 use Rattle.words.specs.declared.limits.TheConstants.{WORD_BYTES}
 use Rattle.words.specs.Bits.{Has}
@@ -24,9 +24,8 @@ use Rattle.final_pause.specs.declared.helper.Helper.{Helper}
 use Rattle.final_pause.specs.Pauses.{PauseView}
 use Rattle.final_pause.specs.Dealing.{rank}
 use Rattle.final_pause.specs.Waiting.{IsTaken}
-use Rattle.final_pause.specs.Helping.{found, won_of, IsReadyPause, IsHelperOf, HelperGrows, IsWordRead, IsAwaitedBy, QueuesObject, AreWon, HasStrayOn, IsPointedInto, ClaimsOnly, IsWordOf, Visits, ReadsWords, ReadsOwn}
-use Rattle.final_pause.specs.Serving.{IsReachable, IsReachedAt, IsQueuedAt, IsServing, GoesOnServing, IsRunRead, IsEntryRead, AreRootsRead, AreEntriesRead, IsTurn, AreWordsRead, ArePagesRead, IsShareRead, IsHired}
-use Rattle.final_pause.proofs.Knowing.{none_in}
+use Rattle.final_pause.specs.Helping.{found, won_of, IsHelperOf, HelperGrows, IsWordRead, IsAwaitedBy, QueuesObject, AreWon, HasStrayOn, IsPointedInto, ClaimsOnly, IsWordOf, Visits, ReadsWords, ReadsOwn}
+use Rattle.final_pause.specs.Serving.{IsReachable, IsReachedAt, IsQueuedAt, IsServing, GoesOnServing, IsRunRead, IsEntryRead, AreRootsRead, AreEntriesRead, IsTurn, AreWordsRead, ArePagesRead, IsShareRead}
 use Rattle.final_pause.proofs.Growing.{target_more, word_more, awaited_more, page_more}
 
 module _ (p : PauseView) where
@@ -94,19 +93,6 @@ module _ (p : PauseView) where
 
   pub serves_refl : (h : Helper) → IsServing p h → GoesOnServing p h h
   serves_refl h s = record { serving = s; place = refl; learns = record { right = refl; known = λ k e. e }; carried = λ q h. h }
-
-  -- a helper that is hired owes nothing yet
-  pub serves_hired : IsReadyPause p → (h : Helper) → IsHired p.table (length p.map) h → IsServing p h
-  serves_hired ready h x = record {
-    fits = record { ready = ready; of = x.of; dirty = x.dirty.size; carried = x.carried.size };
-    part = x.part;
-    won = λ f o n c i lt. absurd (none_in (won_of h) (granule f.base) x.none_won c);
-    dirtied = λ q d. absurd (true≢false (sym d ∙ x.dirty.clear q));
-    strays = λ q d. absurd (true≢false (sym d ∙ x.carried.clear q));
-    queued = λ b c. absurd (none_in h.waiting b x.no_entry c);
-    within = λ k c. absurd (none_in (won_of h) k x.none_won c);
-    own = λ b c. absurd (none_in h.waiting b x.no_entry c);
-  }
 
   pub serves_trans : (a b c : Helper) → GoesOnServing p a b → GoesOnServing p b c → GoesOnServing p a c
   serves_trans a b c x y = record {

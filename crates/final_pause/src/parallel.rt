@@ -1,5 +1,5 @@
 //! Closing the marks with helpers.
-ghost use Rattle.std.specs.Prelude.{◌≡◌, ◌*◌, ◌<◌, All, IfOk, true, false, length};
+ghost use Rattle.std.specs.Prelude.{◌≡◌, ◌*◌, All, IfOk, true, false, length};
 ghost use Rattle.words.specs.declared.limits.TheConstants.{PAGE_WORDS};
 ghost use Rattle.block_map.specs.FoundIn.{found_in};
 ghost use Rattle.marker.specs.Marking.{AreMarksObjects, IsDone};

@@ -8,7 +8,7 @@ ghost use Rattle.marker.specs.Marking.{IsOutside, bytes_of, word_address};
 ghost use Rattle.marker.specs.Growth.{TellsStray};
 ghost use Rattle.final_pause.specs.Helping.{IsReadyPause, IsObjectOf, IsHelperOf, Visits, VisitsAll, ReadsWords};
 ghost use Rattle.final_pause.specs.Pauses.{pause_view};
-ghost use Rattle.final_pause.specs.Serving.{IsServing, GoesOnServing, IsEntryRead, HasServed, AreRootsRead, AreEntriesRead};
+ghost use Rattle.final_pause.specs.Serving.{IsServing, GoesOnServing, HasServed, AreRootsRead};
 
 use crate::gate::Gate;
 use crate::helper::{Helper, carry, claim, put_off, queue};

@@ -1,6 +1,6 @@
 -- What marking beside writers is to a run.
-use Rattle.std.proofs.Common.{◌≡◌, ℕ, zero, suc, ◌+◌, ◌*◌, ◌<◌, ◌≤◌, true, false, List, [], ◌∷◌, ◌++◌, length, get_or, set, Contains, Option, Some, None, refl, sym, ap, ◌∙◌, subst, inr, ⊎_elim, arith, length-set, get_or-set_same}
-use Rattle.std.specs.Prelude.{Bool, All, ◌⊎◌, ◌-◌, ◌/◌}
+use Rattle.std.proofs.Common.{◌≡◌, ℕ, zero, suc, ◌*◌, ◌<◌, ◌≤◌, true, false, List, [], ◌∷◌, ◌++◌, length, get_or, set, Contains, Option, Some, None, refl, sym, ap, ◌∙◌, subst, inr, ⊎_elim, arith, length-set, get_or-set_same}
+use Rattle.std.specs.Prelude.{Bool, All, ◌-◌, ◌/◌}
 use Rattle.std.proofs.lemmas.Bool.{cases_Bool, cases_eq, cases_lt, false≢true}
 use Rattle.std.proofs.lemmas.List.{set-set, set-get_or}
 use Rattle.std.proofs.lemmas.List.Elements.{All-append, All-push, Contains-append_cases, Contains-append_left, Contains-append_right}
@@ -14,7 +14,7 @@ use Rattle.heap_spec.specs.declared.call.Call.TheVariants.{Set}
 use Rattle.heap_spec.specs.declared.event.Event.TheVariants.{Mutator}
 use Rattle.heap_spec.specs.declared.reply.Reply.TheVariants.{Done}
 use Rattle.heap_spec.specs.Closure as heap
-use Rattle.heap_spec.specs.Heap.{Heap, Object, Mutator as HeapMutator, root_words}
+use Rattle.heap_spec.specs.Heap.{Object, Mutator as HeapMutator}
 use Rattle.heap_spec.specs.Layout.{PointsInto}
 use Rattle.heap_spec.specs.Ranges.{IsWord}
 use Rattle.heap_spec.specs.Runs.{Start, Run, Told, heap_after}

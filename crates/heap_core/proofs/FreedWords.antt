@@ -1,5 +1,5 @@
 -- Words of free pages that change past the calls of a core.
-use Rattle.std.proofs.Common.{◌≡◌, ℕ, ◌+◌, ◌*◌, ◌<◌, ◌⊎◌, List, length, get_or, Some, None, sym, ap, ◌∙◌, subst, ⊎_elim, arith}
+use Rattle.std.proofs.Common.{◌≡◌, ℕ, ◌+◌, ◌<◌, ◌⊎◌, List, length, get_or, Some, None, sym, ap, ◌∙◌, subst, ⊎_elim, arith}
 use Rattle.words.specs.Bits.{Has}
 use Rattle.words.specs.Layout.{page_of}
 use Rattle.heap_spec.specs.Heap.{Heap, Object}

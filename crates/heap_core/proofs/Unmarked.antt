@@ -1,5 +1,5 @@
 -- No mark is past the pages that may have an object.
-use Rattle.std.proofs.Common.{◌≡◌, ℕ, ◌+◌, ◌-◌, ◌*◌, ◌/◌, ◌<◌, ◌≤◌, Bool, true, false, get_or, Option, Some, refl, arith}
+use Rattle.std.proofs.Common.{◌≡◌, ℕ, ◌*◌, ◌<◌, Bool, true, false, get_or, Option, Some, refl, arith}
 use Rattle.words.specs.declared.limits.TheConstants.{PAGE_GRANULES}
 use Rattle.words.specs.Bits.{IsEmptyFrom}
 use Rattle.words.specs.Layout.{page_of, granule}

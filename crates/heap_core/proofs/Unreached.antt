@@ -1,6 +1,6 @@
 -- What isn't marked, where all is marked that is to be, is reached by no root.
-use Rattle.std.proofs.Common.{◌≡◌, ℕ, true, false, get_or, ap, ◌∙◌}
-use Rattle.std.specs.Prelude.{◌&&◌, ◌==◌, Option}
+use Rattle.std.proofs.Common.{◌≡◌, true, false, get_or, ap, ◌∙◌}
+use Rattle.std.specs.Prelude.{◌&&◌, Option}
 use Rattle.std.proofs.lemmas.Bool.{eq-eqb}
 use Rattle.words.specs.Layout.{granule}
 use Rattle.heap_spec.proofs.Closures.{reached_in}

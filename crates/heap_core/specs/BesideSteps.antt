@@ -13,6 +13,7 @@ use Rattle.words.specs.Bits.{Has}
 use Rattle.pages.specs.Reads.{AreMoments}
 use Rattle.block_map.specs.FoundIn.{found_in}
 use Rattle.marker.specs.Beside.{TracesIn}
+use Rattle.marker.specs.Entries.{Takes}
 use Rattle.marker.specs.Marking.{IsEmpty, StaysDirty}
 use Rattle.marker.specs.Retracing.{Retraces}
 use Rattle.roots.specs.Roots.{HasMutator}
@@ -29,13 +30,14 @@ pub record GoesOnBeside (moments : List (List ℕ)) (old new : CoreContents) : T
   pub alone : new ≡ record old { cycle = record old.cycle { marker = new.cycle.marker } }
   pub traces : TracesIn (found_in old.store.states) moments old.cycle.marker new.cycle.marker
 
--- So many words were taken off the entries, at most as many as were asked for, and fewer only if no entry is left. No page has
--- become clean.
+-- So many words were taken off the entries, each read at one of the moments, at most as many as were asked for, and fewer only if no
+-- entry is left. No page has become clean.
 pub record MarksBeside (asked : ℕ) (moments : List (List ℕ)) (old : CoreContents) (n : ℕ) (new : CoreContents) : Type 0 where
   pub on : GoesOnBeside moments old new
   pub dirty : StaysDirty old.cycle.marker new.cycle.marker
   pub most : n ≤ asked
   pub fewer : n < asked → IsEmpty new.cycle.marker
+  pub takes : Takes (found_in old.store.states) moments old.cycle.marker n new.cycle.marker
 
 -- The lowest dirty page was read again, or none was dirty.
 pub record RetracesBeside (moments : List (List ℕ)) (old : CoreContents) (n : ℕ) (new : CoreContents) : Type 0 where

@@ -1,6 +1,6 @@
 //! The core, and how it is made.
 ghost use Rattle.pages.specs.Opening.{IsOpened, IsOpenedWithin};
-ghost use Rattle.std.specs.Prelude.{Bool, List, ◌≤◌};
+ghost use Rattle.std.specs.Prelude.{◌≤◌};
 ghost use Rattle.words.specs.declared.limits.TheConstants.{MOST_PAGES, MOST_REQUEST_WORDS};
 ghost use Rattle.heap_spec.specs.Heap.{Heap};
 ghost use Rattle.heap_spec.specs.Sound.{IsSound};

@@ -32,10 +32,6 @@ cleared_at gone a [] i = sym (both_zero 0 (gone (a + 8 * i)))
 cleared_at gone a (w ∷ ws) zero = ap (λ x. cond (gone x) 0 w) (omega arith)
 cleared_at gone a (w ∷ ws) (suc i) = cleared_at gone (a + 8) ws i ∙ ap (λ x. cond (gone x) 0 (get_or ws i 0)) (omega arith)
 
-pub cleared_none : (gone : ℕ → Bool) (a : ℕ) (ws : List ℕ) → ((x : ℕ) → gone x ≡ false) → cleared gone a ws ≡ ws
-cleared_none gone a [] none = refl
-cleared_none gone a (w ∷ ws) none = ap (λ b. cond b 0 w ∷ cleared gone (a + 8) ws) (none a) ∙ ap (λ l. w ∷ l) (cleared_none gone (a + 8) ws none)
-
 -- a word that is left is 0, or was there
 pub cleared_among : (gone : ℕ → Bool) (a : ℕ) (ws : List ℕ) (v : ℕ) → Contains (cleared gone a ws) v → (v ≡ 0) ⊎ Contains ws v
 cleared_among gone a [] v among = inr among

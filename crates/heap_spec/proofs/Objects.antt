@@ -77,11 +77,7 @@ objects_kept pages births old new h was = record {
 was_same : (pages births : ℕ) (objects : ℕ → Option Object) → AreObjects pages births objects → (base : ℕ) (o : Object) → objects base ≡ Some o → Was objects base o
 was_same pages births objects h base o is = (o, is, refl, refl, h.words base o is)
 
--- some objects less, and one with a word written
-pub objects_without : (pages births : ℕ) (objects : ℕ → Option Object) (bases : List ℕ) → AreObjects pages births objects
-    → AreObjects pages births (without_at objects bases)
-objects_without pages births objects bases h = objects_kept pages births objects _ h (λ base o is. was_same pages births objects h base o (left_over _ _ o is).1)
-
+-- one with a word written
 pub objects_stored : (pages births : ℕ) (objects : ℕ → Option Object) (k i w : ℕ) (o : Object) → AreObjects pages births objects → objects k ≡ Some o → IsWord w
     → AreObjects pages births (with_at objects k (Some (record o { words = slice_set o.words i w })))
 objects_stored pages births objects k i w o h has fits = objects_kept pages births objects _ h (λ base p is.

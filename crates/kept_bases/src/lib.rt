@@ -5,7 +5,7 @@
 //! `sort_out` leaves exactly the bases of those objects that the heap keeps, and the others are those that are gone (`SortsOut`).
 #![tactic(auto)]
 
-ghost use Rattle.std.specs.Prelude.{◌≡◌, IsTrue, IfOk, false, []};
+ghost use Rattle.std.specs.Prelude.{◌≡◌, IsTrue, IfOk, false};
 ghost use Rattle.kept_bases.specs.Sorting.{IsBase, SortsOne, SortsOut};
 
 use heap_core::Core;

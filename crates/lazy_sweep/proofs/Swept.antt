@@ -9,12 +9,17 @@ use Rattle.words.specs.Bits.{Has}
 use Rattle.block_map.specs.FoundIn.{found_in}
 use Rattle.block_map.specs.Changes.{IsSameMap}
 use Rattle.block_map.specs.Objects.{IsMap}
+use Rattle.block_map.specs.States.{PageState}
 use Rattle.lazy_sweep.specs.Sound.{store_with, SweepsOne, SweepsSome}
 use Rattle.lazy_sweep.specs.declared.table.PageTable.{PageTable}
 use Rattle.lazy_sweep.specs.Store.{Store}
 use Rattle.lazy_sweep.specs.Kept.{restrict, is_kept, kept_in}
 use Rattle.lazy_sweep.specs.Sweeps.{Sweeps, SweepsPage}
 use Rattle.lazy_sweep.proofs.Kept.{page_swept}
+
+-- the store of these
+abbrev pub store_of : List ℕ → List Bool → List PageState → List Bool → Store
+store_of words row states pending = record { words = words; free = row; states = states; pending = pending }
 
 abbrev one_if : Bool → ℕ
 one_if b = cond b 1 0

@@ -20,7 +20,3 @@ pub record Agree (row : List Bool) (states : List PageState) : Type 0 where
 -- Each page that is cut has an object: a page that has none left is free.
 abbrev pub HasObjects : List PageState → Type 0
 HasObjects states = (page : ℕ) (b : Cells) → state_at states page ≡ cut b → (i : ℕ) × (slice_index_or b.taken i false ≡ true)
-
--- the store of these
-abbrev pub store_of : List ℕ → List Bool → List PageState → List Bool → Store
-store_of words row states pending = record { words = words; free = row; states = states; pending = pending }

@@ -1,6 +1,6 @@
 //! Pages by class and kind: for each of these a row of bits over the pages. A page is found there without a walk over all
 //! pages.
-ghost use Rattle.std.specs.Prelude.{◌≡◌, ◌+◌, ◌*◌, ◌<◌, Bool, true, false, [], length, slice_index_or, slice_set, vec_len, IfOk, MatchOption};
+ghost use Rattle.std.specs.Prelude.{◌≡◌, ◌<◌, Bool, true, false, [], length, slice_index_or, slice_set, vec_len, IfOk, MatchOption};
 ghost use Rattle.words.specs.Bits.{IsEmptyFrom, IsFirstFrom};
 ghost use Rattle.words.specs.Classes.{IsSizeClass};
 ghost use Rattle.lazy_sweep.specs.declared.available_pages.TheConstants.{ROWS};

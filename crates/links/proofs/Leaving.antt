@@ -1,5 +1,5 @@
 -- The links that leave a heap along with objects are those that leave a row which has them, and so are the words that become 0.
-use Rattle.std.proofs.Common.{◌≡◌, ◌≢◌, ℕ, ◌+◌, ◌*◌, ◌%◌, ◌<◌, ◌≤◌, Bool, true, false, cond, List, [], length, get_or, take, refl, sym, ap, ◌∙◌, subst, arith, ⊎_elim}
+use Rattle.std.proofs.Common.{◌≡◌, ◌≢◌, ℕ, ◌+◌, ◌*◌, ◌%◌, ◌<◌, ◌≤◌, Bool, true, false, cond, List, length, get_or, take, refl, sym, ap, ◌∙◌, subst, arith, ⊎_elim}
 use Rattle.std.specs.Prelude.{Option, Some, None, Contains, ◌==◌, ◌&&◌, ◌||◌, not, filter}
 use Rattle.std.proofs.lemmas.Bool.{true≢false, eq-eqb, ne_eqb, eqb-true, leb-true, ltb-true, cases_eq}
 use Rattle.std.proofs.lemmas.List.Folds.{Any-from_list_any, list_any_more}
@@ -10,8 +10,15 @@ use Rattle.heap_spec.proofs.Objects.{without_some, without_other}
 use Rattle.heap_spec.proofs.Links.{stays_by, names_yes, lies_yes, neither, length-cleared}
 use Rattle.links.specs.declared.row.Link.{Link}
 use Rattle.links.specs.Named.{IsNamed, AreNamed}
-use Rattle.links.specs.Leaving.{TellObjects, stays_with, loses_with, word_index, clears_with, ClearsWords}
+use Rattle.links.specs.Leaving.{stays_with, loses_with, word_index, clears_with, ClearsWords}
 use Rattle.links.proofs.Named.{named_any, named_filter}
+
+-- Two tests tell these objects: whether one of them has the word at an address, and whether one begins there.
+pub record TellObjects (objects : ℕ → Option Object) (holds begins : ℕ → Bool) : Type 0 where
+  pub held : (a base : ℕ) (o : Object) → objects base ≡ Some o → PointsInto a base (length o.words) → holds a ≡ true
+  pub bare : (a : ℕ) → ((base : ℕ) (o : Object) → objects base ≡ Some o → PointsInto a base (length o.words) → ⊥) → holds a ≡ false
+  pub there : (base : ℕ) (o : Object) → objects base ≡ Some o → begins base ≡ true
+  pub gone : (base : ℕ) → ((o : Object) → objects base ≡ Some o → ⊥) → begins base ≡ false
 
 -- objects whose addresses are read by one alone
 abbrev pub PointsIntoOne : Heap → Type 0
@@ -123,15 +130,12 @@ module _ (s : Heap) (bases : List ℕ) (holds begins : ℕ → Bool) (left : Tel
     word_same are = named_any s.objects (λ l. (word_index origin l.address == word_index origin a) && loses_with holds begins l) (λ h. (h.address == a) && names s bases h)
         (λ l h n. ⊎_elim (here l h n) (elsewhere l h n) (cases_eq h.address a)) are
 
--- the words of links, one link after another
-pub clears_none : (origin : ℕ) (holds begins : ℕ → Bool) (words : List ℕ) → ClearsWords origin holds begins [] words words
-clears_none origin holds begins words = record { size = refl; words = λ k. refl }
-
 cond_or : (a b : Bool) (z w : ℕ) → cond b z (cond a z w) ≡ cond (a || b) z w
 cond_or true true z w = refl
 cond_or true false z w = refl
 cond_or false b z w = refl
 
+-- the words of links, one link after another
 pub clears_more : (origin : ℕ) (holds begins : ℕ → Bool) (row : List Link) (i : ℕ) (l d : Link) (words mid words' : List ℕ) → i < length row → l ≡ get_or row i d → ClearsWords origin holds begins (take i row) words mid
     → length words' ≡ length mid → ((k : ℕ) → get_or words' k 0 ≡ cond ((word_index origin l.address == k) && loses_with holds begins l) 0 (get_or mid k 0)) → ClearsWords origin holds begins (take (i + 1) row) words words'
 clears_more origin holds begins row i l d words mid words' lt is so size one = record {

@@ -1,17 +1,8 @@
 -- What leaves a heap takes its links along, of a row as of the heap.
-use Rattle.std.specs.Prelude.{◌≡◌, ℕ, ◌-◌, ◌/◌, ◌&&◌, ◌==◌, not, Bool, true, false, List, Option, Some, if◌then◌else◌, length, slice_index}
+use Rattle.std.specs.Prelude.{◌≡◌, ℕ, ◌-◌, ◌/◌, ◌&&◌, ◌==◌, not, Bool, List, if◌then◌else◌, length, slice_index}
 use Rattle.std.specs.List.{list_any}
 use Rattle.words.specs.declared.limits.TheConstants.{WORD_BYTES}
-use Rattle.heap_spec.specs.Layout.{PointsInto}
-use Rattle.heap_spec.specs.Heap.{Object}
 use Rattle.links.specs.declared.row.Link.{Link}
-
--- Two tests tell these objects: whether one of them has the word at an address, and whether one begins there.
-pub record TellObjects (objects : ℕ → Option Object) (holds begins : ℕ → Bool) : Type 0 where
-  pub held : (a base : ℕ) (o : Object) → objects base ≡ Some o → PointsInto a base (length o.words) → holds a ≡ true
-  pub bare : (a : ℕ) → ((base : ℕ) (o : Object) → objects base ≡ Some o → PointsInto a base (length o.words) → ⊥) → holds a ≡ false
-  pub there : (base : ℕ) (o : Object) → objects base ≡ Some o → begins base ≡ true
-  pub gone : (base : ℕ) → ((o : Object) → objects base ≡ Some o → ⊥) → begins base ≡ false
 
 -- a link stays if its holder and the object that it names do
 abbrev pub stays_with : (ℕ → Bool) → (ℕ → Bool) → Link → Bool

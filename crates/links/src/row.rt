@@ -1,6 +1,5 @@
 //! The row of links.
-ghost use Rattle.std.specs.Prelude.{◌≡◌, ◌%◌, ◌<◌, ◌≤◌, [], ◌∷◌, ◌++◌, length, filter, not, ◌==◌, MatchBool};
-ghost use Rattle.arrayvec.specs.ArrayVec.{array_vec_len};
+ghost use Rattle.std.specs.Prelude.{◌≡◌, ◌%◌, ◌<◌, ◌≤◌, [], length, MatchBool};
 ghost use Rattle.words.specs.declared.limits.TheConstants.{WORD_BYTES, MAX_LINKS};
 ghost use Rattle.words.specs.declared.class.Kind.TheVariants.{Normal, PointerFree};
 ghost use Rattle.links.specs.Rows.{has_at, but_at, with_link_at, IsAlignedRow, IsRow, HasRowRoom, LacksRowRoom};

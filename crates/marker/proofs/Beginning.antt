@@ -1,5 +1,5 @@
 -- Objects that were begun: their entries, and their words, of which the first two were read before the others.
-use Rattle.std.proofs.Common.{◌≡◌, ℕ, zero, suc, ◌+◌, ◌-◌, ◌*◌, ◌<◌, ◌≤◌, List, [], ◌∷◌, ◌++◌, length, map, reverse, get_or, set, sym, ap, ◌∙◌, ⊎_elim, arith, length-set, get_or-set_same, get_or-set_other}
+use Rattle.std.proofs.Common.{◌≡◌, ℕ, zero, suc, ◌+◌, ◌-◌, ◌*◌, ◌<◌, ◌≤◌, List, [], ◌∷◌, ◌++◌, length, map, reverse, get_or, set, refl, sym, ap, ◌∙◌, ⊎_elim, arith, length-set, get_or-set_same, get_or-set_other}
 use Rattle.std.proofs.lemmas.Bool.{cases_eq}
 use Rattle.std.proofs.lemmas.List.{ext_get_or, map-append, reverse-append}
 use Rattle.std.proofs.lemmas.List.Sums.{sum_by-append}
@@ -77,6 +77,9 @@ pub words_push : (bs : List Begun) (b : Begun) → words_begun (bs ++ b ∷ []) 
 words_push bs b = sum_by-append (λ (x : Begun). x.len) bs (b ∷ []) ∙ (let n : words_begun bs + (0 + b.len) ≡ words_begun bs + b.len = omega arith in n)
 
 -- the first of them stood on top
+pub entries_none : entries_begun [] ≡ []
+entries_none = refl
+
 pub entries_first : (bs : List Begun) (b : Begun) → entries_begun (b ∷ bs) ≡ entries_begun bs ++ entry_begun b ∷ []
 entries_first bs b = reverse-append (entry_begun b ∷ []) (map entry_begun bs)
 

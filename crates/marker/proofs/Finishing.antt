@@ -1,5 +1,5 @@
 -- Objects that were begun together are read to their ends, one after the other, while the others wait.
-use Rattle.std.proofs.Common.{◌≡◌, ℕ, ◌+◌, ◌*◌, ◌<◌, ◌≤◌, List, [], ◌∷◌, ◌++◌, length, Option, Some, refl, sym, ap, ◌∙◌, subst, append_assoc, length-append, arith}
+use Rattle.std.proofs.Common.{◌≡◌, ℕ, ◌+◌, ◌*◌, ◌<◌, ◌≤◌, List, [], ◌∷◌, ◌++◌, length, Option, refl, sym, ap, ◌∙◌, append_assoc, length-append, arith}
 use Rattle.std.proofs.lemmas.List.{length_push}
 use Rattle.std.proofs.lemmas.List.FromFn.{length-map-range_with_len}
 use Rattle.words.specs.declared.limits.TheConstants.{MARK_STACK_ENTRIES, PAGE_GRANULES}
@@ -9,14 +9,16 @@ use Rattle.block_map.specs.declared.found.Found.{Found}
 use Rattle.block_map.specs.Objects.{IsMap}
 use Rattle.marker.specs.declared.entry.Entry.{Entry}
 use Rattle.marker.specs.declared.together.Begun.{Begun}
-use Rattle.marker.specs.Marking.{Marking, IsMarked, with_carried, with_current, with_stack, word_address}
+use Rattle.marker.specs.Marking.{Marking, IsMarked, bytes_of, with_carried, with_current, with_stack, word_address}
+use Rattle.marker.specs.Beside.{MarksRow}
 use Rattle.marker.specs.Growth.{Awaits, MarksWord, MarksWords, entry_of, words_from, nothing, object, begun, and_word, pointer_free, pushed, dirtied}
-use Rattle.marker.specs.Entries.{IsSpent, IsUnread, IsLive, AreUnreadFrom, Picks, ReadsOn, Takes, picked, read}
-use Rattle.marker.specs.Begun.{AreBegun, Finishes, entry_begun}
+use Rattle.marker.specs.Entries.{IsSpent, IsUnread, IsLive, AreUnreadFrom, Picks, ReadsOn, TakesWhole, picked, read}
+use Rattle.marker.specs.Begun.{AreBegun, entry_begun}
 use Rattle.marker.proofs.Growing.{Extends}
 use Rattle.marker.proofs.Words.{words_current, words_extends}
 use Rattle.marker.proofs.Known.{unread_more, from_more, known_words}
 use Rattle.marker.proofs.Settling.{read_out}
+use Rattle.marker.proofs.Wholes.{spent_current}
 
 -- What words lead to is pushed, and no stack is full: so the entries that wait in the middle of the stack may be there or not.
 module _ (found : ℕ → Option Found) (lower waiting : List Entry) where
@@ -84,31 +86,29 @@ begun_more pages found moments a b more bs all x h =
     }
 
 -- An object is read to its end, while these others wait.
-module _ (pages : ℕ) (found : ℕ → Option Found) (map : IsMap pages found) (moments : List (List ℕ)) (f : Found) (a b : Marking) (size : length a.marks ≡ PAGE_GRANULES * pages) (x : Finishes found moments f a b)
+module _ (pages : ℕ) (found : ℕ → Option Found) (map : IsMap pages found) (moments : List (List ℕ)) (f : Found) (a b : Marking) (size : length a.marks ≡ PAGE_GRANULES * pages) (row : MarksRow found moments f 0 f.len (bytes_of a) (page_of (word_address f 0)) a b)
     (unread : IsUnread found a (entry_of f) f) (one_page : (i : ℕ) → i < f.len → page_of (word_address f i) ≡ page_of (word_address f 0)) where
   abbrev seen : List ℕ
-  seen = x.row.seen
+  seen = row.seen
 
-  extends : Extends found a (with_carried x.mid a.carried)
-  extends = words_extends pages found map a size x.row.marks
+  extends : Extends found a (with_carried b a.carried)
+  extends = words_extends pages found map a size row.marks
 
   pub finished_marks : (k : ℕ) → IsMarked a k → IsMarked b k
-  finished_marks k h = subst (λ m. IsMarked m k) (sym x.new_is) (extends.marks k h)
+  finished_marks = extends.marks
 
   pub finished_sizes : (length b.marks ≡ length a.marks) × (length b.dirty ≡ length a.dirty)
-  finished_sizes = (ap (λ (m : Marking). length m.marks) x.new_is ∙ extends.marks_len, ap (λ (m : Marking). length m.dirty) x.new_is ∙ extends.dirty_len)
+  finished_sizes = (extends.marks_len, extends.dirty_len)
 
   pub finished_known : (n : ℕ) → AreUnreadFrom found a n a.stack → AreUnreadFrom found b n b.stack
-  finished_known n known =
-      subst (λ (m : Marking). AreUnreadFrom found m n m.stack) (sym x.new_is)
-      (from_more found (with_carried x.mid a.carried) (with_current x.mid (record { base = f.base; next = f.len })) n x.mid.stack (λ k h. h) (known_words pages found map a size n known x.row.marks))
+  finished_known n known = from_more found (with_carried b a.carried) b n b.stack (λ k h. h) (known_words pages found map a size n known row.marks)
 
   module _ (lower waiting upper : List Entry) (is : a.stack ≡ lower ++ upper) (room : length a.stack + length waiting + f.len ≤ MARK_STACK_ENTRIES) where
     pub words_len : length (words_from seen f 0 f.len) ≡ f.len
     words_len = length-map-range_with_len (λ i. word_at seen (word_address f i)) 0 f.len
 
-    abbrev pub pushes : IsPushed found lower waiting a upper (words_from seen f 0 f.len) (with_carried x.mid a.carried)
-    pushes = words_between found lower waiting a upper is x.row.marks (let l = words_len in omega arith)
+    abbrev pub pushes : IsPushed found lower waiting a upper (words_from seen f 0 f.len) (with_carried b a.carried)
+    pushes = words_between found lower waiting a upper is row.marks (let l = words_len in omega arith)
 
     abbrev pub next : List Entry
     next = pushes.upper_new
@@ -117,8 +117,12 @@ module _ (pages : ℕ) (found : ℕ → Option Found) (map : IsMap pages found) 
     abbrev begins : Marking
     begins = with_current (with_stack a (lower ++ waiting ++ upper)) (entry_of f)
 
+    -- and then it was read to its end
+    abbrev last : Entry
+    last = record { base = f.base; next = f.len }
+
     abbrev ends : Marking
-    ends = with_stack b (lower ++ waiting ++ pushes.upper_new)
+    ends = with_current (with_stack b (lower ++ waiting ++ pushes.upper_new)) last
 
     abbrev live : IsLive found begins f
     live = record { entry = entry_of f; current = refl; unread = record { object = unread.object; base = unread.base; normal = unread.normal; marked = unread.marked; left = unread.left } }
@@ -128,35 +132,32 @@ module _ (pages : ℕ) (found : ℕ → Option Found) (map : IsMap pages found) 
       object = f;
       live = live;
       fits = omega arith;
-      mid = with_current (with_stack (with_carried x.mid a.carried) (lower ++ waiting ++ pushes.upper_new)) (entry_of f);
+      mid = with_current (with_stack (with_carried b a.carried) (lower ++ waiting ++ pushes.upper_new)) (entry_of f);
       reads = words_current found (with_stack a (lower ++ waiting ++ upper)) (entry_of f) pushes.marks;
       page = page_of (word_address f 0);
       one_page = λ i le lt. one_page i (omega arith);
-      carried = x.mid.carried;
-      carries = x.row.carries;
-      new_is = ap (λ m. with_stack m (lower ++ waiting ++ pushes.upper_new)) x.new_is
-          ∙ (let all : f.len ≡ 0 + f.len = omega arith in ap (λ (n : ℕ). with_current (with_stack x.mid (lower ++ waiting ++ pushes.upper_new)) (record { base = f.base; next = n })) all);
+      carried = b.carried;
+      carries = row.carries;
+      new_is = (let all : f.len ≡ 0 + f.len = omega arith in ap (λ (n : ℕ). with_current (with_stack b (lower ++ waiting ++ pushes.upper_new)) (record { base = f.base; next = n })) all);
     }
 
     pub finished_stack : b.stack ≡ lower ++ next
-    finished_stack = ap (λ (m : Marking). m.stack) x.new_is ∙ pushes.stack
+    finished_stack = pushes.stack
 
     pub finished_few : length b.stack ≤ length a.stack + f.len
-    finished_few = let s = ap (λ (m : Marking). length m.stack) x.new_is in let k = pushes.few in let l = words_len in omega arith
+    finished_few = let k = pushes.few in let l = words_len in omega arith
 
-    pub finished_spent : (e : Entry) → b.current ≡ Some e → IsSpent found b e
-    finished_spent = read_out found seen f.len begins ends f reads live (omega arith)
-
-    picks : ((e : Entry) → a.current ≡ Some e → IsSpent found a e) → Picks found (with_stack a (lower ++ (waiting ++ entry_of f ∷ []) ++ upper)) begins
-    picks spent = record {
+    picks : (e : Entry) → IsSpent found a e → Picks found (with_current (with_stack a (lower ++ (waiting ++ entry_of f ∷ []) ++ upper)) e) begins
+    picks e spent = record {
       lower = lower ++ waiting;
       entry = entry_of f;
       upper = upper;
       stack = ap (λ l. l ++ upper) (sym (append_assoc lower waiting (entry_of f ∷ []))) ∙ append_assoc (lower ++ waiting) (entry_of f ∷ []) upper;
       new_is = refl;
-      spent = spent;
+      spent = spent_current found a e spent;
     }
 
-    pub finished_takes : ((e : Entry) → a.current ≡ Some e → IsSpent found a e) → (start : Marking) (n : ℕ) → Takes found moments start n (with_stack a (lower ++ (waiting ++ entry_of f ∷ []) ++ upper))
-        → Takes found moments start (n + f.len) (with_stack b (lower ++ waiting ++ next))
-    finished_takes spent start n t = read (picked t (picks spent)) (record { seen = seen; woven = x.row.woven; reads = reads })
+    pub finished_takes : (start : Marking) (n : ℕ) → TakesWhole found moments start n (with_stack a (lower ++ (waiting ++ entry_of f ∷ []) ++ upper)) → TakesWhole found moments start (n + f.len) (with_stack b (lower ++ waiting ++ next))
+    finished_takes start n t e spent =
+        let p = t e spent in
+        (last, read_out found seen f.len begins ends f reads live (omega arith) last refl, read (picked p.2 (picks p.0 p.1)) (record { seen = seen; woven = row.woven; reads = reads }))

@@ -13,6 +13,7 @@ pub mod Picking
 pub mod Turning
 pub mod Reading
 pub mod Taking
+pub mod Wholes
 pub mod Beginning
 pub mod Finishing
 pub mod Mutating

@@ -16,7 +16,7 @@ use Rattle.block_map.specs.Objects.{IsMap}
 use Rattle.block_map.specs.FoundIn.{found_in, found_in_block}
 use Rattle.block_map.specs.States.{PageState, cut, state_at}
 use Rattle.block_map.proofs.Finding.{found_as, block_object}
-use Rattle.marker.specs.Marking.{Marking, IsMarked, with_carried, word_address}
+use Rattle.marker.specs.Marking.{Marking, IsMarked, AreMarksObjects, with_carried, word_address}
 use Rattle.marker.specs.Closure.{held}
 use Rattle.marker.specs.Invariant.{IsSettled}
 use Rattle.marker.specs.Growth.{MarksWords, CarriesPage, begun, words_from}
@@ -39,6 +39,19 @@ cut_begins states page w b f is low high e =
 -- the objects of a block have its kind
 pub cut_kind : (states : List PageState) (page w : ℕ) (b : Cells) (f : Found) → state_at states page ≡ cut b → page_start page ≤ w → w < page_start (page + 1) → found_in states w ≡ Some f → f.kind ≡ b.kind
 cut_kind states page w b f is low high e = ap (λ (x : Found). x.kind) (block_object page w b f (sym (found_cut states page w b is low high) ∙ e)).0
+
+-- at a marked granule of a page that is cut an object of its block begins
+pub marked_cell : (states : List PageState) (page g : ℕ) (b : Cells) (m : Marking) → IsMap (length states) (found_in states) → AreMarksObjects (found_in states) m → Has m.marks g
+    → state_at states page ≡ cut b → PAGE_GRANULES * page ≤ g → g < PAGE_GRANULES * (page + 1)
+    → (f : Found) × (found_in_block page b (FIRST_ADDRESS + GRANULE_BYTES * g) ≡ Some f) × (f.base ≡ FIRST_ADDRESS + GRANULE_BYTES * g)
+marked_cell states page g b m map objects h is low high =
+    let o = objects g h in let f = o.object in let first = o.first in
+    let p = map.placed f.base f o.is in let above = p.above in let aligned = p.aligned in
+    let base : f.base ≡ FIRST_ADDRESS + GRANULE_BYTES * g = omega arith in (
+      f,
+      sym (found_cut states page (FIRST_ADDRESS + GRANULE_BYTES * g) b is (omega arith) (omega arith)) ∙ sym (ap (found_in states) base) ∙ o.is,
+      base,
+    )
 
 before_more : (found : ℕ → Option Found) (high low past at : ℕ) → low ≤ past → IsBefore found high low at → IsBefore found high past at
 before_more found high low past at le b = record { within = b.within; before = λ f e from below. b.before f e (omega arith) below }
@@ -84,15 +97,6 @@ pub no_mark : (row : List Bool) (word j low i : ℕ) → ((k : ℕ) → k / 64 �
 no_mark row word j low i of few none k from below h = false≢true (sym (of k (omega arith) ∙ none (k % 64) (omega arith) (omega arith)) ∙ h)
 
 module _ (pages : ℕ) (found : ℕ → Option Found) (map : IsMap pages found) (words : List ℕ) where
-  -- no Normal object begins at this granule
-  pub objects_other : (first : Marking) (high g n : ℕ) (m : Marking) → ((f : Found) → found (FIRST_ADDRESS + GRANULE_BYTES * g) ≡ Some f → f.base ≡ FIRST_ADDRESS + GRANULE_BYTES * g → f.kind ≡ Normal → ⊥)
-      → RereadsObjects found words first high g (g + 1) n m n m
-  objects_other first high g n m not =
-      objects_none found words first high g (g + 1) n m (omega arith) (λ f e normal o from below.
-      let p = map.placed f.base f e in let above = p.above in let aligned = p.aligned in
-      let base : f.base ≡ FIRST_ADDRESS + GRANULE_BYTES * g = omega arith in
-      not f (sym (ap found base) ∙ e) base normal)
-
   -- the words of a marked object are read up to an address
   pub objects_words : (first : Marking) (high g stop n r k page : ℕ) (f : Found) (old new : Marking) → ((i : ℕ) → 0 ≤ i → i < 0 + n → page_of (word_address f i) ≡ page)
       → CarriesPage found (PAGE_BYTES * length old.dirty) (words_from words f 0 n) page old.carried new.carried → length old.marks ≡ PAGE_GRANULES * pages → f.base < high

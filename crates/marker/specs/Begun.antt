@@ -8,8 +8,7 @@ use Rattle.block_map.specs.declared.found.Found.{Found}
 use Rattle.block_map.specs.Objects.{IsPlaced}
 use Rattle.marker.specs.declared.entry.Entry.{Entry}
 use Rattle.marker.specs.declared.together.Begun.{Begun}
-use Rattle.marker.specs.Marking.{Marking, bytes_of, with_current, word_address}
-use Rattle.marker.specs.Beside.{MarksRow}
+use Rattle.marker.specs.Marking.{Marking, word_address}
 use Rattle.marker.specs.Entries.{IsUnread}
 
 -- the entry of a begun object, as it stood on the stack
@@ -42,9 +41,3 @@ pub record IsBegun (pages : ℕ) (found : ℕ → Option Found) (moments : List 
 -- each of these objects is begun
 abbrev pub AreBegun : ℕ → (ℕ → Option Found) → List (List ℕ) → Marking → List Begun → Type 0
 AreBegun pages found moments m bs = (b : Begun) → Contains bs b → IsBegun pages found moments m b
-
--- All words of an object are done with, and its entry is the one that is being read now, to its end.
-pub record Finishes (found : ℕ → Option Found) (moments : List (List ℕ)) (f : Found) (old new : Marking) : Type 0 where
-  pub mid : Marking
-  pub row : MarksRow found moments f 0 f.len (bytes_of old) (page_of (word_address f 0)) old mid
-  pub new_is : new ≡ with_current mid (record { base = f.base; next = f.len })

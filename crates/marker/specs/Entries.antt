@@ -91,12 +91,6 @@ pub record ReadsIn (found : ℕ → Option Found) (moments : List (List ℕ)) (n
   pub woven : IsWoven moments seen
   pub reads : ReadsOn found seen n old new
 
--- The entry that is being read is dropped, and n words of the next one, which then is being read, are done with.
-pub record ReadsNext (found : ℕ → Option Found) (moments : List (List ℕ)) (n : ℕ) (old new : Marking) : Type 0 where
-  pub next : Marking
-  pub settles : Settles found old next
-  pub reads : ReadsIn found moments n next new
-
 -- So many words are taken off the entries, each from the one that is being read and at one of the moments; entries that have no
 -- word to read are dropped, and when the one that is being read has none, any other may be the next, and those that wait may change
 -- places.
@@ -106,6 +100,11 @@ pub data Takes (found : ℕ → Option Found) (moments : List (List ℕ)) (old :
   picked : {n : ℕ} {a b : Marking} → Takes found moments old n a → Picks found a b → Takes found moments old n b
   turned : {n : ℕ} {a b : Marking} → Takes found moments old n a → Turns found a b → Takes found moments old n b
   read : {n k : ℕ} {a b : Marking} → Takes found moments old n a → ReadsIn found moments k a b → Takes found moments old (n + k) b
+
+-- So many words are taken off entries that wait, by reading their objects whole, where the entry that is being read has no word left.
+-- Which one that is isn't looked at: whichever it was before, there is one that it may be then.
+abbrev pub TakesWhole : (ℕ → Option Found) → List (List ℕ) → Marking → ℕ → Marking → Type 0
+TakesWhole found moments old n new = (e : Entry) → IsSpent found old e → (last : Entry) × IsSpent found new last × Takes found moments (with_current old e) n (with_current new last)
 
 -- the entries of a stack are still where they were
 abbrev pub IsBelow : List Entry → List Entry → Type 0

@@ -13,6 +13,7 @@ use words::{PageNo, granule_of, page_of};
 
 impl Marker {
     /// A word was written at the address. The invariant stays, whatever was written.
+    #[inline]
     #[tactic(auto, using(crate::proofs::Mutating::mutating))]
     pub fn written(&mut self, address: u64)
         requires low { FIRST_ADDRESS ≤ address }

@@ -1,7 +1,7 @@
 //! Which of two objects is read first. Where an object led to several, the second from the top of the stack comes before the one on
 //! top if it lies nearer to that object. So a tree is read in the order of memory, whether it was made from its top or from its
 //! leaves.
-ghost use Rattle.std.specs.Prelude.{◌≡◌, ℕ, ◌+◌, ◌<◌, ◌≤◌, Option, length};
+ghost use Rattle.std.specs.Prelude.{ℕ, ◌+◌, ◌<◌, Option, length};
 ghost use Rattle.block_map.specs.declared.found.Found.{Found};
 ghost use Rattle.marker.specs.Entries.{AreUnreadFrom, IsTurned};
 

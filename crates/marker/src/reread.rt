@@ -1,5 +1,5 @@
 //! The reading again of a page's marked objects.
-ghost use Rattle.std.specs.Prelude.{◌≡◌, ℕ, ◌+◌, ◌*◌, ◌%◌, ◌<◌, ◌≤◌, ◌∷◌, true, false, length, MatchOption};
+ghost use Rattle.std.specs.Prelude.{◌≡◌, ℕ, ◌+◌, ◌*◌, ◌%◌, ◌<◌, ◌≤◌, true, false, length, MatchOption};
 ghost use Rattle.words.specs.declared.limits.TheConstants.{FIRST_ADDRESS, PAGE_BYTES, PAGE_GRANULES, PAGE_WORDS, WORD_BYTES};
 ghost use Rattle.words.specs.declared.class.Kind.TheVariants.{Normal};
 ghost use Rattle.words.specs.Bits.{Has, HasNoBit, IsFirstBit};
@@ -13,7 +13,7 @@ ghost use Rattle.marker.specs.Retracing.{Rereads, RereadsObjects};
 
 use crate::marker::Marker;
 use crate::part::part_between;
-use block_map::{BlockMap, Found, object_from};
+use block_map::{BlockMap, Found, object_in_block};
 use blocks::Block;
 use pages::Reader;
 use words::limits::{FIRST_ADDRESS, GRANULE_BYTES, PAGE_BYTES, PAGE_GRANULES, WORD_BYTES};
@@ -135,7 +135,7 @@ impl Marker {
         }
     }
 
-    // Reads the words of the object of a block again that begins at a marked granule, if one does.
+    // Reads the words of the object of a block again that begins at a marked granule: each mark is that of one.
     #[inline]
     fn reread_at(
         &mut self,
@@ -164,9 +164,7 @@ impl Marker {
     {
         self.laws();
         let base = FIRST_ADDRESS + GRANULE_BYTES * granule as u64;
-        let Some(found) = object_from(page, block, base) else {
-            return;
-        };
+        let found = object_in_block(page, block, base);
         // The block's objects end on its page, so that all their words are read, and the number of them is the block's.
         self.mark_words(map, heap_bytes, reader, found, 0, u64::from(found.len));
     }

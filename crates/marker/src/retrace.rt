@@ -1,5 +1,5 @@
 //! The reading again of dirty pages.
-ghost use Rattle.std.specs.Prelude.{◌≡◌, ℕ, ◌+◌, ◌*◌, ◌<◌, ◌≤◌, [], true, false, length, slice_set, MatchOption, IfNone};
+ghost use Rattle.std.specs.Prelude.{◌≡◌, ℕ, ◌+◌, ◌*◌, ◌≤◌, [], true, false, length, slice_set, MatchOption, IfNone};
 ghost use Rattle.words.specs.declared.limits.TheConstants.{PAGE_WORDS};
 ghost use Rattle.words.specs.Bits.{Has, IsFirstFrom};
 ghost use Rattle.block_map.specs.FoundIn.{found_in};

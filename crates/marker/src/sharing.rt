@@ -1,5 +1,5 @@
 //! What the marker lends to the helpers of a pause, and takes back from them.
-ghost use Rattle.std.specs.Prelude.{◌≡◌, ◌⊎◌, ℕ, ◌*◌, ◌<◌, ◌≤◌, [], None, true, false, length, slice_index_or, IfOk, IfErr};
+ghost use Rattle.std.specs.Prelude.{◌≡◌, ◌⊎◌, ℕ, ◌*◌, ◌≤◌, [], None, true, false, length, slice_index_or, IfOk, IfErr};
 ghost use Rattle.words.specs.declared.refusal.OpenError.TheVariants.{Memory};
 ghost use Rattle.words.specs.declared.limits.TheConstants.{PAGE_GRANULES};
 ghost use Rattle.words.specs.Bits.{Has, IsEmptyFrom};

@@ -1,5 +1,5 @@
 //! Steps of marking: words of entries are read, at most so many a call.
-ghost use Rattle.std.specs.Prelude.{◌≡◌, ℕ, ◌+◌, ◌*◌, ◌<◌, ◌≤◌, ◌↔◌, [], ◌∷◌, true, false, length, MatchOption, IfSome, Some};
+ghost use Rattle.std.specs.Prelude.{◌≡◌, ◌+◌, ◌*◌, ◌<◌, ◌≤◌, ◌↔◌, [], ◌∷◌, true, false, length, MatchOption, IfSome, Some};
 ghost use Rattle.words.specs.declared.limits.TheConstants.{MARK_STACK_ENTRIES, MOST_PAGES, PAGE_BYTES, PAGE_WORDS};
 ghost use Rattle.block_map.specs.declared.found.Found.{Found};
 ghost use Rattle.block_map.specs.Objects.{IsPlaced};

@@ -17,8 +17,9 @@ use words::limits::{FIRST_ADDRESS, GRANULE_BYTES};
 use words::{Kind, granule_of};
 
 impl Marker {
-    // Marks the object that the word points into. The heap's range is tested here, before the map is asked. Answers
-    // whether the word is stray: it lies in the range and points into no object.
+    // Marks the object that the word points into. The heap's range is tested here, before the map is asked, and a word that is the
+    // base of a marked object has its mark looked at alone. Answers whether the word is stray: it lies in the range and points into
+    // no object.
     #[inline]
     pub(crate) fn mark_word(&mut self, map: &BlockMap, heap_bytes: u64, word: u64) -> bool
         requires pages { length self.old.dirty ≡ length map.now }
@@ -34,12 +35,15 @@ impl Marker {
         }
         // Its clauses tell how many pages there are.
         self.laws();
+        if self.is_marked_base(word) {
+            return false;
+        }
         self.mark_target(map, word)
     }
 
-    // Marks the object that a word points into, if it points into one. Most words point into none, so that the loop over
-    // words is to hold the test of the range and not this. Answers whether it points into none. A word that is the base of a
-    // marked object has its mark looked at alone. Most pages are cut, so that what is on others is looked up elsewhere.
+    // Marks the object that a word points into, if it points into one. Most words point into none, or into objects that are
+    // marked, so that the loop over words is to hold the tests for these and not this. Answers whether it points into none. Most
+    // pages are cut, so that what is on others is looked up elsewhere.
     #[inline(never)]
     fn mark_target(&mut self, map: &BlockMap, word: u64) -> bool
         requires pages { length self.old.dirty ≡ length map.now }
@@ -51,9 +55,6 @@ impl Marker {
         ensures objects { AreMarksObjects (found_in map.now) self.new }
     {
         self.laws();
-        if self.is_marked_base(word) {
-            return false;
-        }
         let Some(answer) = map.find_in_cell(word) else {
             return self.mark_elsewhere(map, word);
         };

@@ -1,18 +1,16 @@
 //! Objects that are begun together: the first words of several are read before one of them is read on. So the processor
 //! fetches all of these words at once, where it would wait for those of one object after the other.
-ghost use Rattle.std.specs.Prelude.{◌≡◌, ℕ, ◌+◌, ◌*◌, ◌<◌, ◌≤◌, ◌++◌, ◌∷◌, [], length, true, Some};
-ghost use Rattle.words.specs.declared.limits.TheConstants.{FIRST_ADDRESS, MARK_STACK_ENTRIES, MOST_PAGES, PAGE_BYTES, PAGE_WORDS};
+ghost use Rattle.std.specs.Prelude.{◌≡◌, ℕ, ◌+◌, ◌*◌, ◌≤◌, ◌++◌, ◌∷◌, [], length, true, Some};
+ghost use Rattle.words.specs.declared.limits.TheConstants.{MARK_STACK_ENTRIES, MOST_PAGES, PAGE_BYTES, PAGE_WORDS};
 ghost use Rattle.words.specs.Layout.{page_of};
 ghost use Rattle.block_map.specs.declared.found.Found.{Found};
 ghost use Rattle.block_map.specs.Objects.{IsPlaced, LiesOnPage};
 ghost use Rattle.block_map.specs.FoundIn.{found_in, IsLawful};
-ghost use Rattle.marker.specs.declared.entry.Entry.{Entry};
 ghost use Rattle.marker.specs.Marking.{with_stack, word_address, AreMarksObjects};
 ghost use Rattle.marker.specs.Beside.{MarksRow};
-ghost use Rattle.marker.specs.Entries.{IsSpent, IsOnTop, AreUnreadFrom, Takes};
-ghost use Rattle.marker.specs.Begun.{IsBegun, AreBegun, Finishes, entry_begun, entries_begun, words_begun};
+ghost use Rattle.marker.specs.Entries.{IsOnTop, AreUnreadFrom, TakesWhole};
+ghost use Rattle.marker.specs.Begun.{IsBegun, AreBegun, entry_begun, entries_begun, words_begun};
 
-use crate::entry::Entry;
 use crate::marker::{ENTRIES, Marker};
 use arrayvec::ArrayVec;
 use block_map::{BlockMap, Found};
@@ -134,30 +132,8 @@ impl Marker {
         }
     }
 
-    // Reads a begun object to its end: it is the one that is being read then, and has no word left.
-    #[inline]
-    fn finish_begun(&mut self, map: &BlockMap, heap_bytes: u64, reader: &mut Reader, begun: Begun)
-        requires pages { length self.old.dirty ≡ length map.now }
-        requires objects { AreMarksObjects (found_in map.now) self.old }
-        requires lawful { IsLawful map.now }
-        requires bytes { heap_bytes ≡ PAGE_BYTES * length map.now }
-        requires memory { length reader.old.words ≡ PAGE_WORDS * length map.now }
-        requires begun { IsBegun (length map.now) (found_in map.now) reader.old.moments self.old begun }
-        ensures finishes { (f : Found) → found_in map.now begun.base ≡ Some f → f.base ≡ begun.base → Finishes (found_in map.now) reader.old.moments f self.old self.new }
-        ensures words { reader.new.words ≡ reader.old.words }
-        ensures moments { reader.new.moments ≡ reader.old.moments }
-        ensures reads { reader.new.reads + 2 ≡ reader.old.reads + begun.len }
-        ensures objects { AreMarksObjects (found_in map.now) self.new }
-    {
-        self.mark_begun(map, heap_bytes, reader, begun);
-        self.set_current(Entry {
-            base: begun.base,
-            next: begun.len,
-        });
-    }
-
-    // Reads begun objects to their ends, where the entry that is being read has no word left and the stack has room for all
-    // that they may lead to. Answers how many words they have.
+    // Reads begun objects to their ends, where the stack has room for all that they may lead to. Answers how many words they
+    // have.
     #[inline]
     fn finish_objects(
         &mut self,
@@ -173,10 +149,8 @@ impl Marker {
         requires memory { length reader.old.words ≡ PAGE_WORDS * length map.now }
         requires begun { AreBegun (length map.now) (found_in map.now) reader.old.moments self.old begun.now.items }
         requires room { length self.old.stack + length begun.now.items + words_begun begun.now.items ≤ MARK_STACK_ENTRIES }
-        requires done { (e : Entry) → self.old.current ≡ Some e → IsSpent (found_in map.now) self.old e }
-        ensures takes { Takes (found_in map.now) reader.old.moments (with_stack self.old (self.old.stack ++ entries_begun begun.now.items)) result self.new }
+        ensures takes { TakesWhole (found_in map.now) reader.old.moments (with_stack self.old (self.old.stack ++ entries_begun begun.now.items)) result self.new }
         ensures known { (n : ℕ) → AreUnreadFrom (found_in map.now) self.old n self.old.stack → AreUnreadFrom (found_in map.now) self.new n self.new.stack }
-        ensures done { (e : Entry) → self.new.current ≡ Some e → IsSpent (found_in map.now) self.new e }
         ensures all { result ≡ words_begun begun.now.items }
         ensures words { reader.new.words ≡ reader.old.words }
         ensures moments { reader.new.moments ≡ reader.old.moments }
@@ -187,7 +161,7 @@ impl Marker {
         let mut read = 0;
         for k in 0..begun.len() {
             let one = begun[k];
-            self.finish_begun(map, heap_bytes, reader, one);
+            self.mark_begun(map, heap_bytes, reader, one);
             read += u64::from(one.len);
         }
         read
@@ -211,10 +185,8 @@ impl Marker {
         requires bytes { heap_bytes ≡ PAGE_BYTES * length map.now }
         requires memory { length reader.old.words ≡ PAGE_WORDS * length map.now }
         requires known { AreUnreadFrom (found_in map.now) self.old known self.old.stack }
-        requires done { (e : Entry) → self.old.current ≡ Some e → IsSpent (found_in map.now) self.old e }
-        ensures takes { Takes (found_in map.now) reader.old.moments self.old result self.new }
+        ensures takes { TakesWhole (found_in map.now) reader.old.moments self.old result self.new }
         ensures known { AreUnreadFrom (found_in map.now) self.new known self.new.stack }
-        ensures done { (e : Entry) → self.new.current ≡ Some e → IsSpent (found_in map.now) self.new e }
         ensures most { result ≤ most }
         ensures words { reader.new.words ≡ reader.old.words }
         ensures moments { reader.new.moments ≡ reader.old.moments }

@@ -1,14 +1,14 @@
 //! Objects that are read whole, one after the other. Most are small and their entries were pushed in the same step, so that
 //! a step spends its time here.
-ghost use Rattle.std.specs.Prelude.{◌≡◌, ℕ, ◌+◌, ◌*◌, ◌<◌, ◌≤◌, ◌++◌, ◌∷◌, [], List, length, true, IfSome, Some};
+ghost use Rattle.std.specs.Prelude.{◌≡◌, ℕ, ◌+◌, ◌*◌, ◌<◌, ◌≤◌, ◌++◌, ◌∷◌, [], List, length, true, IfSome};
 ghost use Rattle.words.specs.declared.limits.TheConstants.{FIRST_ADDRESS, MARK_STACK_ENTRIES, MOST_PAGES, PAGE_BYTES, PAGE_WORDS};
 ghost use Rattle.words.specs.Layout.{page_of};
 ghost use Rattle.block_map.specs.Objects.{IsPlaced, LiesOnPage};
 ghost use Rattle.block_map.specs.FoundIn.{found_in, IsLawful};
-ghost use Rattle.marker.specs.Marking.{with_current, word_address, AreMarksObjects};
-ghost use Rattle.marker.specs.Entries.{IsSpent, IsOnTop, AreUnreadFrom, ReadsNext, Takes};
+ghost use Rattle.marker.specs.Marking.{word_address, AreMarksObjects};
+ghost use Rattle.marker.specs.declared.entry.Entry.{Entry};
+ghost use Rattle.marker.specs.Entries.{IsOnTop, AreUnreadFrom, TakesWhole};
 
-use crate::entry::Entry;
 use crate::marker::{ENTRIES, Marker};
 use crate::together::TOGETHER;
 use block_map::{BlockMap, Found};
@@ -65,16 +65,7 @@ impl Marker {
         self.stack.pop();
     }
 
-    // Makes the entry that is being read another one.
-    #[inline]
-    pub(crate) fn set_current(&mut self, entry: Entry)
-        ensures { self.new ≡ with_current self.old entry }
-    {
-        self.current = Some(entry);
-    }
-
-    // Reads all words of the object of the entry on top of the stack, where the entry that is being read has none left. It
-    // is the one that is being read then, and has none left either.
+    // Takes the entry on top off the stack, and reads all words of its object.
     #[inline]
     fn read_whole(&mut self, map: &BlockMap, heap_bytes: u64, reader: &mut Reader, found: Found)
         requires pages { length self.old.dirty ≡ length map.now }
@@ -82,12 +73,10 @@ impl Marker {
         requires lawful { IsLawful map.now }
         requires bytes { heap_bytes ≡ PAGE_BYTES * length map.now }
         requires top { IsOnTop (found_in map.now) self.old found }
-        requires done { (e : Entry) → self.old.current ≡ Some e → IsSpent (found_in map.now) self.old e }
         requires placed { IsPlaced (length map.now) found × (length map.now ≤ MOST_PAGES) }
         requires one_page { (i : ℕ) → 0 ≤ i → i < 0 + found.len → page_of (word_address found i) ≡ page_of (word_address found 0) }
         requires memory { length reader.old.words ≡ PAGE_WORDS * length map.now }
-        ensures read { ReadsNext (found_in map.now) reader.old.moments found.len self.old self.new }
-        ensures done { (e : Entry) → self.new.current ≡ Some e → IsSpent (found_in map.now) self.new e }
+        ensures takes { TakesWhole (found_in map.now) reader.old.moments self.old found.len self.new }
         ensures known { (n : ℕ) → AreUnreadFrom (found_in map.now) self.old n self.old.stack → AreUnreadFrom (found_in map.now) self.new n self.new.stack }
         ensures words { reader.new.words ≡ reader.old.words }
         ensures moments { reader.new.moments ≡ reader.old.moments }
@@ -97,10 +86,6 @@ impl Marker {
         self.laws();
         self.drop_top();
         self.mark_words(map, heap_bytes, reader, found, 0, u64::from(found.len));
-        self.set_current(Entry {
-            base: found.base,
-            next: found.len,
-        });
     }
 
     // Reads the object of the entry on top of the stack whole, if that entry is known to have words and it has so many at most. Answers
@@ -120,10 +105,8 @@ impl Marker {
         requires bytes { heap_bytes ≡ PAGE_BYTES * length map.now }
         requires memory { length reader.old.words ≡ PAGE_WORDS * length map.now }
         requires known { AreUnreadFrom (found_in map.now) self.old known self.old.stack }
-        requires done { (e : Entry) → self.old.current ≡ Some e → IsSpent (found_in map.now) self.old e }
-        ensures takes { Takes (found_in map.now) reader.old.moments self.old result self.new }
+        ensures takes { TakesWhole (found_in map.now) reader.old.moments self.old result self.new }
         ensures known { AreUnreadFrom (found_in map.now) self.new known self.new.stack }
-        ensures done { (e : Entry) → self.new.current ≡ Some e → IsSpent (found_in map.now) self.new e }
         ensures most { result ≤ most }
         ensures words { reader.new.words ≡ reader.old.words }
         ensures moments { reader.new.moments ≡ reader.old.moments }
@@ -161,27 +144,26 @@ impl Marker {
         requires few { known ≤ MARK_STACK_ENTRIES }
         requires memory { length reader.old.words ≡ PAGE_WORDS * length map.now }
         requires known { AreUnreadFrom (found_in map.now) self.old known self.old.stack }
-        requires done { (e : Entry) → self.old.current ≡ Some e → IsSpent (found_in map.now) self.old e }
-        ensures takes { Takes (found_in map.now) reader.old.moments self.old result self.new }
+        ensures takes { TakesWhole (found_in map.now) reader.old.moments self.old result self.new }
         ensures known { AreUnreadFrom (found_in map.now) self.new known self.new.stack }
-        ensures done { (e : Entry) → self.new.current ≡ Some e → IsSpent (found_in map.now) self.new e }
         ensures most { result ≤ most }
         ensures words { reader.new.words ≡ reader.old.words }
         ensures moments { reader.new.moments ≡ reader.old.moments }
         ensures reads { reader.new.reads ≡ reader.old.reads + result }
         ensures objects { AreMarksObjects (found_in map.now) self.new }
     {
-        let depth = self.depth();
-        if depth < known + WIDE || depth > CROWDED {
-            self.read_top(map, heap_bytes, reader, known, most)
-        } else {
+        let wide = known + WIDE;
+        // From `wide` to `CROWDED`, by one test.
+        if self.depth().wrapping_sub(wide) <= CROWDED.saturating_sub(wide) {
             self.read_together(map, heap_bytes, reader, known, most)
+        } else {
+            self.read_top(map, heap_bytes, reader, known, most)
         }
     }
 
     // Reads objects whole, at most so many words: those of the entries on top of the stack, while these are known to have
-    // words and the next one's can be read at once. The entry that is being read has no word left, before and after. It is
-    // no part of its caller, so that the machine's registers are for this loop alone.
+    // words and the next one's can be read at once. The entry that is being read has no word left, and is neither looked at nor
+    // written. This is no part of its caller, so that the machine's registers are for this loop alone.
     #[inline(never)]
     pub(crate) fn read_wholes(
         &mut self,
@@ -197,10 +179,8 @@ impl Marker {
         requires few { known ≤ MARK_STACK_ENTRIES }
         requires memory { length reader.old.words ≡ PAGE_WORDS * length map.now }
         requires known { AreUnreadFrom (found_in map.now) self.old known self.old.stack }
-        requires done { (e : Entry) → self.old.current ≡ Some e → IsSpent (found_in map.now) self.old e }
-        ensures takes { Takes (found_in map.now) reader.old.moments self.old result self.new }
+        ensures takes { TakesWhole (found_in map.now) reader.old.moments self.old result self.new }
         ensures known { AreUnreadFrom (found_in map.now) self.new known self.new.stack }
-        ensures done { (e : Entry) → self.new.current ≡ Some e → IsSpent (found_in map.now) self.new e }
         ensures most { result ≤ most }
         ensures words { reader.new.words ≡ reader.old.words }
         ensures moments { reader.new.moments ≡ reader.old.moments }
@@ -209,13 +189,13 @@ impl Marker {
     {
         self.laws();
         map.laws();
-        let mut read = 0;
+        let mut left = most;
         loop {
-            let more = self.read_some(map, heap_bytes, reader, known, most - read);
-            if more == 0 {
-                return read;
+            let read = self.read_some(map, heap_bytes, reader, known, left);
+            if read == 0 {
+                return most - left;
             }
-            read += more;
+            left -= read;
         }
     }
 }

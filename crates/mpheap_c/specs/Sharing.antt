@@ -1,8 +1,8 @@
 -- What the calls by which threads of C share the marking do to handles.
-use Rattle.std.specs.Prelude.{◌≡◌, ℕ, ◌+◌, ◌<◌, ◌≤◌, ◌⊎◌, true, false, length, Option, Some, None}
+use Rattle.std.specs.Prelude.{◌≡◌, ℕ, ◌+◌, ◌<◌, ◌⊎◌, true, false, length, Option, Some, None}
 use Rattle.words.specs.declared.limits.TheConstants.{MAX_HELPERS}
 use Rattle.heap_core.specs.CoreContents.{CoreContents}
-use Rattle.heap_core.specs.Sharing.{Sharing, IsSameRound, HasShares, MarksTogether}
+use Rattle.heap_core.specs.Sharing.{Sharing, HasShares, MarksTogether}
 use Rattle.mpheap_c.specs.declared.crew.Place.{Place}
 
 -- the handle is open, and these shares stand there

@@ -1,5 +1,5 @@
 //! The calls of mutators on links.
-ghost use Rattle.std.specs.Prelude.{◌≡◌, ◌<◌};
+ghost use Rattle.std.specs.Prelude.{◌<◌};
 ghost use Rattle.words.specs.declared.limits.TheConstants.{SLOTS, REGISTERS};
 ghost use Rattle.mpheap_c.specs.Handle.{IsOpen};
 ghost use Rattle.mpheap_c.specs.Crossing.{IsAnswered, IsServed, IsDoneCall, IsCountCall};

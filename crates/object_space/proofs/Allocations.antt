@@ -14,6 +14,7 @@ use Rattle.heap_spec.specs.Room.{HasSmallRoom}
 use Rattle.pages.specs.Memory.{IsWordAddress, IsZeroed, word_index}
 use Rattle.pages.specs.Runs.{IsFreeRun, HasNoFreeRun, IsFilled}
 use Rattle.blocks.specs.Cells.{Cells, IsCells}
+use Rattle.blocks.specs.Lists.{ChangesPage}
 use Rattle.blocks.proofs.Places.{class_bounds}
 use Rattle.block_map.specs.States.{PageState, free, cut, head, body, state_at, IsCut, LaidAt, IsLaid, IsSpanSet, HasCell, all_free, with_cell, large_states}
 use Rattle.block_map.specs.Listed.{first_object, first_on, link_on, with_taken, AreListed, HasFirst, IsListedOn}
@@ -31,10 +32,26 @@ use Rattle.object_space.specs.Store.{Store, HasSoundPages, IsPendingRow}
 use Rattle.lazy_sweep.specs.Store.{Agree}
 use Rattle.heap_view.specs.Shows.{Shows}
 use Rattle.lazy_sweep.specs.AvailableRows.{IsFreeCell, HasNoFreeCell}
-use Rattle.object_space.specs.Rooms.{HasRoomAt, HasNoRoom, TakesCell, CutsPage}
+use Rattle.object_space.specs.Rooms.{HasRoomAt, HasNoRoom}
 use Rattle.object_space.specs.Sweeps.{Gains}
 use Rattle.object_space.proofs.Words.{others_kept, zeroed_object}
 use Rattle.object_space.proofs.Rooms.{cell_below, room_of_cell, room_of_page, no_small_room, large_room, no_large_room}
+
+-- A free cell is allocated, and its words are 0; another one is then the first free one of the page. Nothing else has changed.
+pub record TakesCell (words words' : List ℕ) (states states' : List PageState) (page cell base : ℕ) : Type 0 where
+  pub next : ℕ
+  pub became : states' ≡ set states page (with_cell (state_at states page) cell true next)
+  pub added : IsAdded (found_in states) (found_in states') (object_on page (state_at states page) cell)
+  pub at : base ≡ (object_on page (state_at states page) cell).base
+  pub zeroed : IsZeroed words words' (word_index base) (object_on page (state_at states page) cell).len
+
+-- A free page is taken from the pool, and cut with all its cells free. No word of another page changes.
+pub record CutsPage (words words' : List ℕ) (free free' : List Bool) (states states' : List PageState) (class : ℕ) (kind : Kind) (page : ℕ) : Type 0 where
+  pub run : IsFreeRun free page 1
+  pub taken : IsFilled free free' page 1 false
+  pub became : states' ≡ set states page (all_free class kind)
+  pub same : IsSameMap (found_in states) (found_in states')
+  pub changes : ChangesPage words words' page
 
 -- the objects of a map that is the same are the same
 pub shows_same : (found after : ℕ → Option Found) (words : List ℕ) (objects : ℕ → Option Object) (births : ℕ) → IsSameMap found after → Shows found words objects births → Shows after words objects births
@@ -73,10 +90,6 @@ module _ (t : Store) (laid : IsLaid t.states) (lawful : IsLawful t.states) (clas
 
   f : Found
   f = object_on page (state_at t.states page) cell
-
-  f_is : f ≡ cell_object page place_is.block cell
-  unfolding f
-  f_is = cell_is t.states page cell place_is.block place_is.is_cut
 
   cells : IsCells place_is.block
   cells = subst (LaidAt t.states page) place_is.is_cut (laid.each page place_is.inside)

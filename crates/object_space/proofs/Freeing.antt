@@ -19,13 +19,12 @@ use Rattle.block_map.proofs.Listed.{listed_span}
 use Rattle.lazy_sweep.specs.AvailableRows.{AreReady, AreWaiting, IsBitSet}
 use Rattle.lazy_sweep.specs.Sound.{store_with}
 use Rattle.lazy_sweep.specs.declared.table.PageTable.{PageTable}
-use Rattle.object_space.specs.Rooms.{FreesCell}
-use Rattle.object_space.specs.Store.{IsWholeSpace, KeepsPending}
+use Rattle.object_space.specs.Store.{IsWholeSpace}
 use Rattle.object_space.specs.Sweeps.{Loses}
 use Rattle.object_space.proofs.AvailablePages.{exact_large_gone, waiting_span}
 use Rattle.object_space.proofs.FreedCells.{awaited_kept, awaited_uncut, exact_entered, exact_kept, exact_uncut, exact_unswept}
-use Rattle.object_space.proofs.Frees.{frees_kept, frees_last, in_block, large_here, loses_cell, loses_large, on_page, pending_row, size_freed, sound_freed, sound_large_gone}
-use Rattle.object_space.proofs.Pending.{large_uncut, pending_gone, pending_large, pending_put}
+use Rattle.object_space.proofs.Frees.{frees_kept, frees_last, in_block, large_here, loses_cell, loses_large, on_page, pending_row, size_freed, sound_freed, sound_large_gone, FreesCell}
+use Rattle.object_space.proofs.Pending.{large_uncut, pending_gone, pending_large, pending_put, KeepsPending}
 use Rattle.object_space.proofs.Putting.{left, left_allocated, left_class, left_empty, IsLeft}
 
 -- the block of a page that is cut

@@ -18,10 +18,25 @@ use Rattle.block_map.specs.FoundIn.{found_in, IsLawful}
 use Rattle.block_map.specs.declared.found.Found.{Found}
 use Rattle.marker.specs.Mutations.{KeepsWords}
 use Rattle.marker.proofs.Keeping.{written_kept}
-use Rattle.object_space.specs.Store.{Store, HasSoundPages, KeepsPending, IsPendingRow}
-use Rattle.object_space.specs.Rooms.{FreesCell, EmptiesCell, keeps, gives, without_cell}
+use Rattle.object_space.specs.Store.{Store, HasSoundPages, IsPendingRow}
 use Rattle.object_space.specs.Sweeps.{Loses}
+use Rattle.object_space.proofs.Pending.{KeepsPending}
 use Rattle.lazy_sweep.proofs.GivenPages.{agree_given, no_object, used_given}
+
+-- the map with this cell put back
+abbrev pub without_cell : List PageState → ℕ → ℕ → List PageState
+without_cell states page cell = set states page (with_put (state_at states page) cell)
+
+-- A cell becomes free: its page keeps another object, or it has none left and becomes free too.
+pub data EmptiesCell (row row' : List Bool) (states states' : List PageState) (page cell : ℕ) : Type 0 where
+  keeps : (b : Cells) (i : ℕ) → state_at states' page ≡ cut b → get_or b.taken i false ≡ true → row' ≡ row → states' ≡ without_cell states page cell
+      → EmptiesCell row row' states states' page cell
+  gives : IsFilled row row' page 1 true → IsSpanSet (without_cell states page cell) states' page 1 (λ _. free) → EmptiesCell row row' states states' page cell
+
+-- A cell was freed, and its object is gone.
+pub record FreesCell (row row' : List Bool) (states states' : List PageState) (page cell : ℕ) : Type 0 where
+  pub pages : EmptiesCell row row' states states' page cell
+  pub removed : IsRemoved (found_in states) (found_in states') (object_on page (state_at states page) cell)
 
 -- all pages of a large object
 pub sound_large_gone : (t : Store) (row' : List Bool) (states' : List PageState) (first n : ℕ) → HasSoundPages t → IsFilled t.free row' first n true → IsSpanSet t.states states' first n (λ _. free)

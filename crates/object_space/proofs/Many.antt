@@ -29,21 +29,14 @@ use Rattle.block_map.proofs.Lawful.{map_laws}
 use Rattle.block_map.proofs.Words.{cells_end}
 use Rattle.lazy_sweep.specs.AvailableRows.{row_of, AreReady, AreWaiting, IsAvailable, IsBitSet, IsReadyPage, IsFreeCell}
 use Rattle.object_space.specs.Many.{AllocatesEach, HasNoneReady, ZeroesEach, base_of}
-use Rattle.object_space.specs.Rooms.{TakesCell}
 use Rattle.object_space.specs.Store.{HasSoundPages, IsWholeSpace, Store}
 use Rattle.object_space.specs.Sweeps.{Allocates, Sweeps}
-use Rattle.object_space.proofs.Allocations.{allocates_cell, gains_cell, sound_cell}
+use Rattle.object_space.proofs.Allocations.{allocates_cell, gains_cell, sound_cell, TakesCell}
 use Rattle.lazy_sweep.proofs.ExactRows.{OffersOnly, ready_changed, same_bit}
 use Rattle.object_space.proofs.AvailablePages.{available_inside, available_not_full, waiting_same}
 use Rattle.object_space.proofs.Pending.{pending_cut}
-use Rattle.lazy_sweep.specs.Store.{store_of}
 use Rattle.object_space.proofs.Searching.{allocates_after}
-use Rattle.lazy_sweep.proofs.Swept.{sweeps_none}
-
--- each of them leaves the number of pages
-pub each_pages : (marks : List Bool) (placement : Placement) (kind : Kind) (old : Store) {bases : List ℕ} {new : Store} → AllocatesEach marks placement kind old bases new → length new.states ≡ length old.states
-each_pages marks placement kind old AllocatesEach.none = refl
-each_pages marks placement kind old (AllocatesEach.more before last pool) = last.gains.pages ∙ last.sweeps.pages ∙ each_pages marks placement kind old before
+use Rattle.lazy_sweep.proofs.Swept.{store_of, sweeps_none}
 
 -- one comes before the others
 pub each_first : (marks : List Bool) (placement : Placement) (kind : Kind) (old mid : Store) (base : ℕ) {bases : List ℕ} {new : Store} → Allocates old marks placement kind base mid → mid.free ≡ old.free
@@ -55,10 +48,6 @@ each_first marks placement kind old mid base first kept (AllocatesEach.more befo
 pub zeroes_last : (len base : ℕ) {words mid new bases : List ℕ} → ZeroesEach len words bases mid → IsZeroed mid new (word_index base) len → ZeroesEach len words (bases ++ base ∷ []) new
 zeroes_last len base ZeroesEach.done last = ZeroesEach.next last ZeroesEach.done
 zeroes_last len base (ZeroesEach.next first more) last = ZeroesEach.next first (zeroes_last len base more last)
-
-pub zeroes_size : (len : ℕ) {words new bases : List ℕ} → ZeroesEach len words bases new → length new ≡ length words
-zeroes_size len ZeroesEach.done = refl
-zeroes_size len (ZeroesEach.next first more) = zeroes_size len more ∙ first.size
 
 -- one cell more
 pub bases_more : (f : ℕ → ℕ) (cells : List ℕ) (i : ℕ) → i < length cells → map f (take (i + 1) cells) ≡ map f (take i cells) ++ f (get_or cells i 0) ∷ []

@@ -1,8 +1,7 @@
 -- A store that opens.
-use Rattle.std.proofs.Common.{◌≡◌, ℕ, ◌*◌, ◌≤◌, List, length, Some, None, sym, ap, ◌∙◌, subst}
+use Rattle.std.proofs.Common.{◌≡◌, ℕ, ◌≤◌, Some, None, sym, subst}
 use Rattle.heap_spec.specs.Heap.{opening}
-use Rattle.block_map.specs.States.{PageState, AreFreePages}
-use Rattle.block_map.specs.Listed.{AreListed, IsListedOn}
+use Rattle.block_map.specs.States.{AreFreePages}
 use Rattle.block_map.specs.Objects.{IsObjectOn}
 use Rattle.block_map.specs.FoundIn.{found_in}
 use Rattle.block_map.specs.declared.found.Found.{Found}
@@ -10,7 +9,7 @@ use Rattle.block_map.proofs.Laid.{laid_free}
 use Rattle.block_map.proofs.Lawful.{map_laws}
 use Rattle.object_space.specs.Store.{Store}
 use Rattle.std.specs.Prelude.{Bool}
-use Rattle.words.specs.declared.limits.TheConstants.{MOST_PAGES, PAGE_WORDS}
+use Rattle.words.specs.declared.limits.TheConstants.{MOST_PAGES}
 use Rattle.object_space.proofs.Kept.{kept_cases}
 use Rattle.object_space.specs.Stores.{Stores}
 
@@ -33,10 +32,3 @@ opens t pages all few keep = record {
   where
     nothing : (f : Found) → found_in t.states f.base ≡ Some f → ⊥
     nothing f is = subst (λ st. IsObjectOn st f) (all.each f.page) ((map_laws t.states (laid_free t.states pages all few)).object f.base f is).on
-
--- no page is cut, so there is no list
-pub listed_free : (words : List ℕ) (states : List PageState) (pages : ℕ) → AreFreePages states pages → length words ≡ PAGE_WORDS * pages → AreListed words states
-listed_free words states pages all size = record {
-  size = size ∙ ap (λ n. PAGE_WORDS * n) (sym all.size);
-  each = λ page lt. subst (IsListedOn words page) (sym (all.each page)) tt;
-}

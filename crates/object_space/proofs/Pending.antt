@@ -1,5 +1,5 @@
 -- The pages that are still to be swept stay cut while other pages change.
-use Rattle.std.proofs.Common.{◌≡◌, ℕ, ◌+◌, ◌<◌, ◌≤◌, ◌⊎◌, inl, inr, Bool, false, List, length, get_or, set, refl, sym, ap, ◌∙◌, subst, ⊎_elim, arith, length-set, get_or-set_same, get_or-set_other}
+use Rattle.std.proofs.Common.{◌≡◌, ℕ, ◌+◌, ◌<◌, ◌≤◌, ◌⊎◌, inl, inr, Bool, false, List, Some, length, get_or, set, refl, sym, ap, ◌∙◌, subst, ⊎_elim, arith, length-set, get_or-set_same, get_or-set_other}
 use Rattle.std.specs.Prelude.{◌≢◌}
 use Rattle.std.proofs.lemmas.Bool.{cases_eq, cases_lt, false≢true}
 use Rattle.words.specs.Bits.{Has, IsClear}
@@ -8,9 +8,19 @@ use Rattle.blocks.specs.Lists.{first_after_put}
 use Rattle.block_map.specs.States.{PageState, free, cut, head, body, state_at, IsCut, IsSpanSet, LaidAt, IsLaid, with_cell}
 use Rattle.words.specs.declared.class.Kind.{Kind}
 use Rattle.block_map.proofs.Spans.{place_of}
-use Rattle.block_map.specs.FoundIn.{IsLawful}
+use Rattle.block_map.specs.FoundIn.{found_in, IsLawful}
+use Rattle.block_map.specs.declared.found.Found.{Found}
 use Rattle.block_map.specs.Objects.{IsObjectOn}
-use Rattle.object_space.specs.Store.{Store, IsPendingRow, KeepsPending}
+use Rattle.object_space.specs.Store.{Store, IsPendingRow}
+
+-- While a page changes, the row of the pending ones keeps to pages that are cut, and for the page of each
+-- object says what it said.
+pub record KeepsPending (page : ℕ) (states states' : List PageState) (row row' : List Bool) : Type 0 where
+  pub rest : (p : ℕ) → p ≢ page → get_or row' p false ≡ get_or row p false
+  pub size : length row' ≡ length row
+  pub cut : ((p : ℕ) → Has row p → IsCut (state_at states p)) → (p : ℕ) → Has row' p → IsCut (state_at states' p)
+  pub less : (p : ℕ) → Has row' p → Has row p
+  pub same : (w : ℕ) (g : Found) → found_in states' w ≡ Some g → get_or row' g.page false ≡ get_or row g.page false
 
 -- what is cut stays cut
 pub pending_cut : (t t' : Store) → IsPendingRow t → t'.pending ≡ t.pending → length t'.states ≡ length t.states → ((p : ℕ) → IsCut (state_at t.states p) → IsCut (state_at t'.states p)) → IsPendingRow t'

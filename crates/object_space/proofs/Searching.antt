@@ -3,9 +3,9 @@ use Rattle.std.proofs.Common.{◌≡◌, ℕ, Bool, List, Option, Some, None, sy
 use Rattle.std.specs.Prelude.{MatchOption, IfSome, IfNone}
 use Rattle.words.specs.declared.class.Kind.{Kind}
 use Rattle.words.specs.declared.class.Placement.{Placement}
-use Rattle.object_space.specs.Store.{Store, IsSwept}
+use Rattle.object_space.specs.Store.{Store}
 use Rattle.object_space.specs.Rooms.{HasRoomAt, HasNoRoom}
-use Rattle.object_space.specs.Sweeps.{Allocates, FindsNoPlace, FindsNoRoom, Gains, Sweeps}
+use Rattle.object_space.specs.Sweeps.{Allocates, FindsNoPlace, Gains, Sweeps}
 use Rattle.lazy_sweep.proofs.Swept.{sweeps_more}
 
 -- a place was looked for once pages were swept
@@ -22,7 +22,3 @@ allocates_after old mid new marks placement kind base sweeps a = record { ready 
 
 pub no_place_after : (old mid new : Store) (marks : List Bool) (placement : Placement) (kind : Kind) → Sweeps old marks mid → FindsNoPlace mid marks placement kind new → FindsNoPlace old marks placement kind new
 no_place_after old mid new marks placement kind sweeps a = record { sweeps = sweeps_more old marks mid new sweeps a.sweeps; none = a.none }
-
--- nothing is left to be swept
-pub no_room : (old mid new : Store) (marks : List Bool) (placement : Placement) (kind : Kind) → FindsNoPlace old marks placement kind mid → IsSwept mid → new ≡ mid → FindsNoRoom old marks placement kind new
-no_room old mid new marks placement kind a swept same = subst (λ (t : Store). FindsNoRoom old marks placement kind t) (sym same) (record { sweeps = a.sweeps; swept = swept; none = a.none })

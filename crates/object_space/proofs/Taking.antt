@@ -19,12 +19,12 @@ use Rattle.block_map.specs.declared.found.Found.{Found}
 use Rattle.lazy_sweep.specs.AvailableRows.{AreReady, IsAvailable, IsBitSet, IsFreeCell}
 use Rattle.lazy_sweep.specs.Sound.{store_with}
 use Rattle.lazy_sweep.specs.declared.table.PageTable.{PageTable}
-use Rattle.object_space.specs.Rooms.{CutsPage, HasRoomAt, TakesCell}
+use Rattle.object_space.specs.Rooms.{HasRoomAt}
 use Rattle.object_space.proofs.Rooms.{cell_below}
 use Rattle.lazy_sweep.proofs.ExactRows.{free_cell_offers}
 use Rattle.object_space.specs.Store.{IsWholeSpace, Store}
 use Rattle.object_space.specs.Sweeps.{Gains}
-use Rattle.object_space.proofs.Allocations.{allocates_cell, allocates_page, cut_laid, first_cell, first_is, first_zeroed, free_swept, gains_cell, gains_page, sound_cell, sound_page, takes_first}
+use Rattle.object_space.proofs.Allocations.{allocates_cell, allocates_page, cut_laid, first_cell, first_is, first_zeroed, free_swept, gains_cell, gains_page, sound_cell, sound_page, takes_first, CutsPage, TakesCell}
 use Rattle.object_space.proofs.AvailablePages.{available_class, available_inside, available_not_full, exact_cut, waiting_same}
 use Rattle.object_space.proofs.Many.{KeepsPages, available_block, block_free_cell, cells_cut, cells_waiting, one_taken, ready_filled, ready_left}
 use Rattle.object_space.proofs.Pending.{pending_cut, cut_page}

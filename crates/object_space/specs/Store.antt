@@ -1,5 +1,5 @@
 -- Where the objects are, and what is true of it.
-use Rattle.std.specs.Prelude.{◌≡◌, ◌≢◌, ℕ, Some, ◌<◌, false, Bool, List, length, slice_index_or}
+use Rattle.std.specs.Prelude.{◌≡◌, ℕ, Some, ◌<◌, Bool, List, length}
 use Rattle.words.specs.Bits.{Has}
 use Rattle.heap_spec.specs.Layout.{LiesOn}
 use Rattle.block_map.specs.States.{PageState, state_at, IsCut}
@@ -24,15 +24,6 @@ pub record HasSoundPages (t : Store) : Type 0 where
 pub record IsPendingRow (t : Store) : Type 0 where
   pub size : length t.pending ≡ length t.states
   pub cut : (page : ℕ) → Has t.pending page → IsCut (state_at t.states page)
-
--- While a page changes, the row of the pending ones keeps to pages that are cut, and for the page of each
--- object says what it said.
-pub record KeepsPending (page : ℕ) (states states' : List PageState) (row row' : List Bool) : Type 0 where
-  pub rest : (p : ℕ) → p ≢ page → slice_index_or row' p false ≡ slice_index_or row p false
-  pub size : length row' ≡ length row
-  pub cut : ((p : ℕ) → Has row p → IsCut (state_at states p)) → (p : ℕ) → Has row' p → IsCut (state_at states' p)
-  pub less : (p : ℕ) → Has row' p → Has row p
-  pub same : (w : ℕ) (g : Found) → found_in states' w ≡ Some g → slice_index_or row' g.page false ≡ slice_index_or row g.page false
 
 -- no page is pending
 abbrev pub IsSwept : Store → Type 0

@@ -1,6 +1,6 @@
 //! The objects of a heap: their words, and the table of the pages that they lie on. That the lists of free cells stand in the
 //! memory, and that the parts of the table agree, is kept here, and no other module touches the two.
-ghost use Rattle.std.specs.Prelude.{◌≡◌, ℕ, ◌*◌, ◌<◌, ◌≤◌, Bool, List, MatchOption, Some, length};
+ghost use Rattle.std.specs.Prelude.{◌≡◌, ℕ, ◌*◌, ◌<◌, ◌≤◌, Bool, MatchOption, Some, length};
 ghost use Rattle.words.specs.declared.limits.TheConstants.{MOST_PAGES, PAGE_WORDS};
 ghost use Rattle.words.specs.Bits.{members, IsEmptyFrom};
 ghost use Rattle.words.specs.Layout.{page_of};

@@ -49,10 +49,6 @@ search_found row n low most first end s few next stop long =
 pub search_end : (row : List Bool) (n low most : ℕ) → IsSearched row n low → most ≤ n → HasNoFreeRunFrom row low most → HasNoFreeRun row n
 search_end row n low most s few none i run = ⊎_elim (λ before. s.none i before run) (λ from. none i from (shorter row i n most few run)) (cases_lt i low)
 
--- where n of them begin, some page is free
-pub begins_inside : (row : List Bool) (low i n : ℕ) → 0 < n → IsFirstFreeRunFrom row low i n → (i < length row) × (get_or row i false ≡ true)
-begins_inside row low i n some first = let within = first.run.inside in (omega (arith, some, within), first.run.free i (omega arith) (omega (arith, some)))
-
 pub no_pages : (row : List Bool) → IsFirstFreeRun row 0 0
 no_pages row = record { run = record { inside = omega arith; free = λ k a b. absurd (omega arith) }; lowest = λ j lt run. absurd (omega arith) }
 

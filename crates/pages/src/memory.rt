@@ -1,5 +1,5 @@
 //! The words of the heap, seen as their list.
-ghost use Rattle.std.specs.Prelude.{◌≡◌, ℕ, ◌+◌, ◌*◌, ◌<◌, ◌≤◌, List, length, slice_index, slice_range, vec_len, EachIndex};
+ghost use Rattle.std.specs.Prelude.{◌≡◌, ℕ, ◌+◌, ◌*◌, ◌≤◌, List, length, slice_index, slice_range, vec_len, EachIndex};
 ghost use Rattle.words.specs.declared.limits.TheConstants.{PAGE_WORDS, MOST_PAGES, FIRST_ADDRESS};
 ghost use Rattle.pages.specs.Memory.{IsWordAddress, IsZeroMemory, IsZeroed, word_index, word_at, with_word_at};
 ghost use Rattle.pages.specs.Opening.{IsOpenedWithin};

@@ -1,7 +1,6 @@
 //! The moments at which a memory is read: what words it has at each of them. Only contracts see them.
 ghost use Rattle.std.specs.Prelude.{◌≡◌, ◌∷◌, ℕ, List, []};
 ghost use Rattle.std.specs.Coded.{coded_ℕ, coded_list};
-ghost use Rattle.pages.specs.Reads.{AreMoments};
 ghost use base.Fml.{ftrue};
 
 use crate::memory::Memory;

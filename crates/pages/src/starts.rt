@@ -1,6 +1,6 @@
 //! Where so many free pages in a row begin. Words of the row in which no two of them begin are passed over, one at a look; in the others
 //! the places are found all at once, by shifts.
-ghost use Rattle.std.specs.Prelude.{◌≡◌, ◌+◌, ◌*◌, ◌%◌, ◌^◌, ◌<◌, ◌≤◌, length, slice_index_or, MatchOption};
+ghost use Rattle.std.specs.Prelude.{◌≡◌, ◌*◌, ◌%◌, ◌^◌, ◌<◌, ◌≤◌, length, slice_index_or, MatchOption};
 ghost use Rattle.words.specs.declared.limits.TheConstants.{MOST_PAGES};
 ghost use Rattle.pages.specs.Runs.{HasNoFreeRunFrom, IsFirstFreeRunFrom};
 ghost use Rattle.pages.specs.Starts.{IsPair, AreShrunk, AreStarts, IsNextPair, IsFirstStart};

@@ -1,5 +1,5 @@
 //! Which root keeps an object: the first whose word points into it.
-ghost use Rattle.std.specs.Prelude.{◌≡◌, ◌++◌, All, IfSome, IfNone, IsTrue, false, flat_map};
+ghost use Rattle.std.specs.Prelude.{◌≡◌, ◌++◌, IfSome, IfNone, IsTrue, false, flat_map};
 ghost use Rattle.heap_spec.specs.Heap.{words_of_slot};
 ghost use Rattle.heap_spec.specs.Layout.{PointsInto};
 ghost use Rattle.roots.specs.Finding.{IsInto, AreNotInto, MutatorHas, SlotHas, SlotsHave, RootsHave};

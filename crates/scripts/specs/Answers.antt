@@ -2,7 +2,7 @@
 use Rattle.std.specs.Prelude.{◌≡◌, ℕ, ◌-◌, ◌<◌, ◌⊎◌, Option, Some, List, [], ◌++◌, length, take, map, All, slice_get, Result, Ok, Err, ⊤}
 use Rattle.std.specs.List.{AllZip}
 use Rattle.std.specs.Io.KnownBytes.{Appends}
-use Rattle.heap_spec.specs.Runs.{Told, Run, Touched, opening_start}
+use Rattle.heap_spec.specs.Runs.{Told, Run, opening_start}
 use Rattle.heap_spec.specs.Transcripts.{LegalTranscript}
 use Rattle.heap_core.specs.CoreContents.{CoreContents}
 use Rattle.scripts.specs.declared.limits.TheConstants.{LAST_LINE}

@@ -1,5 +1,5 @@
 //! Input is read through a buffer. Contracts see the bytes that are left in it.
-ghost use Rattle.std.specs.Prelude.{◌≡◌, ◌+◌, [], ◌∷◌, None, IfOk, OnOk, OnErr, MatchOption, MatchBool};
+ghost use Rattle.std.specs.Prelude.{◌≡◌, ◌+◌, [], ◌∷◌, IfOk, OnOk, OnErr, MatchOption, MatchBool};
 ghost use Rattle.std.specs.Io.KnownBytes.{Consumes, Keeps, IsAtEnd};
 ghost use Rattle.scripts.specs.Reading.{left_of};
 

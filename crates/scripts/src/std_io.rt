@@ -1,6 +1,6 @@
 //! The readers and writers of std as sources and sinks. A call that a signal interrupted is made again, as std's own loops do,
 //! and nothing else is tried again.
-ghost use Rattle.std.specs.Prelude.{◌≡◌, ◌+◌, Ok};
+ghost use Rattle.std.specs.Prelude.{◌≡◌, ◌+◌};
 
 use crate::source::{Failed, Sink, Source};
 use pages::Count;

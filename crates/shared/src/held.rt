@@ -5,7 +5,7 @@ ghost use Rattle.words.specs.declared.limits.TheConstants.{SLOTS};
 ghost use Rattle.history.specs.declared.object.Rank.TheVariants.{First, Last};
 ghost use Rattle.history.specs.Histories.{event, is_first, is_last, is_live, counted_up, GrowsByOthers, Legal, StandsAfter};
 ghost use Rattle.history.specs.Objects.{StepsFrom, KeepsStates};
-ghost use Rattle.history.specs.Passes.{Agrees, Owned, Recalls};
+ghost use Rattle.history.specs.Passes.{Owned, Recalls};
 ghost use Rattle.heap_spec.specs.SequentialObject.{HeapState, Opens, StateStep};
 ghost use Rattle.heap_core.specs.AsObject.{Stands, Can};
 ghost use Rattle.heap_history.specs.Ranks.{rank_of};

@@ -1,5 +1,5 @@
 //! What is written down of a history while it grows: each event, as it joins the history, with what its reply leaves open.
-ghost use Rattle.std.specs.Prelude.{◌++◌, ◌∷◌, [], ◌≡◌, IsTrue, IfOk, map};
+ghost use Rattle.std.specs.Prelude.{◌++◌, ◌∷◌, [], ◌≡◌, IfOk, map};
 ghost use Rattle.history.specs.Histories.{event};
 ghost use Rattle.shared.specs.Journals.{made_of, is_kept, IsOf, TakesDown};
 

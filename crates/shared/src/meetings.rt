@@ -50,6 +50,7 @@ impl<J: Naming> SharedHeap<J> {
     {
         self.log.meet(&mut me.pass, &mut collector.pass);
     }
+
     /// The mutator has then seen all that the other had when it left.
     pub fn hear(&self, me: &mut Mutator<J>, gone: &mut Departed<J>)
         ensures one { GrowsByOthers me.old.slot me.old.seen gone.old.seen ⊎ IsPrefix gone.old.seen me.old.seen }

@@ -1,5 +1,4 @@
 //! A small object to keep a history of.
-ghost use Rattle.std.specs.Prelude.{true, false};
 
 use history::{Object, Rank};
 

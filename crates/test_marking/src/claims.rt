@@ -1,5 +1,5 @@
 //! Threads that claim all marks of a table side by side.
-ghost use Rattle.std.specs.Prelude.{◌≡◌, ℕ, ◌+◌, ◌*◌, ◌<◌, ◌≤◌, true, length, OnOk, OnErr, IfOk, vec_len};
+ghost use Rattle.std.specs.Prelude.{◌≡◌, ℕ, ◌*◌, ◌<◌, ◌≤◌, true, length, OnOk, OnErr, IfOk, vec_len};
 ghost use Rattle.words.specs.Bits.{IsFullRow};
 ghost use Rattle.words.specs.declared.limits.TheConstants.{MAX_HELPERS, PAGE_GRANULES};
 ghost use Rattle.mark_bits.specs.Claims.{joined, knows, HasAll, HasPart, LearnsMore};

@@ -1,5 +1,4 @@
 //! Commands as calls of a shared heap, in one thread.
-ghost use Rattle.std.specs.Prelude.{◌≡◌};
 
 use heap_core::quiet::{Mark, Retrace, Roots, Sweep};
 use heap_spec::answers::{count, done, word};

@@ -2,7 +2,7 @@
 ghost use Rattle.std.specs.Prelude.{◌≡◌, ◌≢◌, ◌%◌, ◌==◌, ◌+◌, ◌/◌, ◌^◌, ◌<◌, ◌≤◌};
 ghost use Rattle.std.specs.Prelude.{ℕ, Bool, true, false, List, length, slice_index, slice_index_or, slice_set, vec_len, EachIndex, IfOk, MatchOption};
 ghost use Rattle.std.specs.Int.{bit_at};
-ghost use Rattle.words.specs.Bits.{bit, bits, members_between, IsEmptyFrom, IsFirstFrom, IsClear, IsFullFrom, IsFirstClearFrom, IsZeroBelow};
+ghost use Rattle.words.specs.Bits.{bits, members_between, IsEmptyFrom, IsFirstFrom, IsClear, IsFullFrom, IsFirstClearFrom, IsZeroBelow};
 
 use crate::count::ones_of;
 use crate::scan::first_from;

@@ -128,20 +128,6 @@ impl CellRow {
         first_from(&self.words, true, 0) >= self.len as usize
     }
 
-    /// The lowest place that isn't a member, and `None` exactly if each is.
-    #[inline]
-    #[tactic(auto, using(crate::proofs::Scans::of_row))]
-    pub fn first_clear(&self) -> Option<u16>
-        ensures { MatchOption result (IsFullRow self.now) (λ i. IsFirstClearFrom self.now 0 i) }
-    {
-        let clear = first_from(&self.words, false, 0);
-        if clear < self.len as usize {
-            Some(clear as u16)
-        } else {
-            None
-        }
-    }
-
     /// Sets the lowest places that aren't members, as many as there is room for, and writes them down in their order. Answers how many: fewer
     /// than there is room for only if every bit is set then.
     pub fn fill(&mut self, places: &mut [u16]) -> usize

@@ -1,5 +1,5 @@
 //! Size classes, kinds, and where a request goes.
-ghost use Rattle.std.specs.Prelude.{◌≡◌, ℕ, ◌<◌, ◌≤◌, ◌*◌, ◌/◌, Some, find, nat_le, slice_get};
+ghost use Rattle.std.specs.Prelude.{◌≡◌, ℕ, ◌≤◌, ◌*◌, ◌/◌, Some, find, nat_le, slice_get};
 ghost use Rattle.words.specs.declared.class.TheConstants.{CLASSES};
 ghost use Rattle.words.specs.declared.limits.TheConstants.{MAX_SMALL_WORDS, MOST_REQUEST_WORDS, PAGE_WORDS};
 ghost use Rattle.words.specs.Classes.{IsSizeClass};

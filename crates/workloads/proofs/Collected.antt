@@ -9,7 +9,7 @@ use Rattle.history.specs.Histories.{event, own, count}
 use Rattle.history.proofs.Growing.{prefix_of}
 use Rattle.history.proofs.Fronts.{prefix_self, prefix_trans, prefix_more}
 use Rattle.heap_spec.specs.declared.event.Event.{Event}
-use Rattle.heap_spec.specs.declared.event.Event.TheVariants.{Begin, BeginPartial, Roots, Mark, Retrace, Finish, Sweep, Collect, Number}
+use Rattle.heap_spec.specs.declared.event.Event.TheVariants.{Begin, BeginPartial, Roots, Mark, Retrace, Finish, Sweep, Number}
 use Rattle.heap_spec.specs.declared.reply.Reply.{Reply}
 use Rattle.heap_spec.specs.declared.reply.Reply.TheVariants.{Done, Count, Refused}
 use Rattle.heap_spec.specs.Replies.{done_reply, count_reply}
@@ -103,9 +103,6 @@ module _ (pages : ℕ) (old new : HeapPass) (asked : Event) (reply : Reply) (slo
 
   pub finishes : (r : Result ℕ Refusal) → asked ≡ Finish → reply ≡ count_reply r → IsGrantedByOwnEvents true pages old Finish Count r new → Commanded pages old asked reply new
   finishes r is said g = as_asked Finish (count_reply r) is said (finished r g)
-
-  pub collects : (n : ℕ) → asked ≡ Collect → reply ≡ Count n → Extends pages old Collect (Count n) new → Commanded pages old asked reply new
-  collects n is said x = as_asked Collect (Count n) is said (made pages old new Collect (Count n) slot refl x)
 
   pub numbers : (n : ℕ) → asked ≡ Number → reply ≡ Count n → Looks pages old new → n ≡ count rank_of new.mine % 2 ^ 64 → Commanded pages old asked reply new
   numbers n is said looks c =

@@ -22,6 +22,7 @@ mod random;
 mod reading;
 mod replies;
 mod serving;
+mod setting;
 mod settling;
 mod stress;
 mod threads;

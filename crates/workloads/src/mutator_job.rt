@@ -76,41 +76,37 @@ pub(crate) fn call_number(index: usize) -> u32
     (index % (1 << u32::BITS)) as u32
 }
 
-// One call, between two calls of the gate.
-fn make_call<J: Naming, R: Wait, G: Gate>(
-    rt: &R,
-    heap: &SharedHeap<J>,
-    gate: &G,
-    number: u32,
-    me: &mut Mutator<J>,
-    call: Call,
-) -> Reply
-    requires { IsNoDetach call }
-    ensures { Makes J.origin me.old call result me.new }
-{
-    let actor = me.slot().number();
-    gate.before(actor, number);
-    let reply = heap.call(rt, me, call);
-    gate.after(actor, number);
-    reply
+// A heap whose calls go between two calls of a gate.
+#[derive(Drop)]
+struct Gated<'a, J: Naming, R, G> {
+    rt: &'a R,
+    heap: &'a SharedHeap<J>,
+    gate: &'a G,
 }
 
-// Makes the calls in their order, and notes their replies.
-fn make_calls<J: Naming, R: Wait, G: Gate>(
-    rt: &R,
-    heap: &SharedHeap<J>,
-    gate: &G,
-    me: &mut Mutator<J>,
-    calls: &[Call],
-    replies: &mut [Reply],
-)
-    requires plain { All IsNoDetach calls.now }
-    requires room { length replies.old ≡ length calls.now }
-    ensures room { length replies.new ≡ length calls.now }
-    ensures called { Called me.old calls.now replies.new me.new }
-{
-    for i in 0..calls.len() {
-        replies[i] = make_call(rt, heap, gate, call_number(i), me, calls[i]);
+impl<'a, J: Naming, R: Wait, G: Gate> Gated<'a, J, R, G> {
+    // One call, between two calls of the gate.
+    fn make(&self, number: u32, me: &mut Mutator<J>, call: Call) -> Reply
+        requires { IsNoDetach call }
+        ensures { Makes J.origin me.old call result me.new }
+    {
+        let actor = me.slot().number();
+        self.gate.before(actor, number);
+        let reply = self.heap.call(self.rt, me, call);
+        self.gate.after(actor, number);
+        reply
+    }
+
+    // Makes the calls in their order, and notes their replies.
+    fn make_all(&self, me: &mut Mutator<J>, calls: &[Call], replies: &mut [Reply])
+        requires plain { All IsNoDetach calls.now }
+        requires room { length replies.old ≡ length calls.now }
+        ensures room { length replies.new ≡ length calls.now }
+        ensures called { Called me.old calls.now replies.new me.new }
+    {
+        for i in 0..calls.len() {
+            replies[i] = self.make(call_number(i), me, calls[i]);
+        }
     }
 }
 
@@ -142,7 +138,12 @@ impl<'a, J: Naming, R: Wait> Attached<'a, J, R> {
         ensures room { length replies.new ≡ length calls.now }
         ensures called { Called self.old calls.now replies.new self.new }
     {
-        make_calls(self.rt, self.heap, gate, &mut self.me, calls, replies);
+        let gated = Gated {
+            rt: self.rt,
+            heap: self.heap,
+            gate,
+        };
+        gated.make_all(&mut self.me, calls, replies);
     }
 }
 

@@ -1,5 +1,5 @@
 //! A workload on threads: each mutator in a thread of its own, and the collector in one more.
-ghost use Rattle.std.specs.Prelude.{◌≡◌, ◌≤◌, ◌<◌, [], All, IfSome, IfOk, length, map, vec_len};
+ghost use Rattle.std.specs.Prelude.{◌≡◌, ◌≤◌, [], All, IfSome, IfOk, length, map, vec_len};
 ghost use Rattle.std.specs.Vec.{vec_capacity};
 ghost use Rattle.words.specs.declared.limits.TheConstants.{MAX_PAGES, SLOTS};
 ghost use Rattle.each_law.specs.Jobs.{HaveRun};
@@ -13,6 +13,7 @@ use crate::collector_job::{CollectorJob, GatedHeap, GivesCommands};
 use crate::lines::Lines;
 use crate::mutator_job::{Attached, MakesCalls, MutatorJob, run_mutator};
 use crate::replies::Replies;
+use crate::setting::Setting;
 use crate::settling::settle;
 use crate::workload::Workload;
 use each_law::run_each_beside;
@@ -159,13 +160,10 @@ fn run_on<J: Naming + Send + Sync, R: Threads + Wait + Sync, G: Gate>(
 
 // Runs the workload on a heap that has a name, with this journal.
 fn run_named<J: Naming + Send + Sync, R: Threads + Wait + Sync, G: Gate>(
-    rt: &R,
-    alloc: Global,
+    setting: &Setting<'_, R, G>,
     opened: Opened<Core>,
     journal: Journal,
     workload: &Workload,
-    helpers: Helpers,
-    gate: &G,
 ) -> Result<(Replies, Journal), AllocError>
     requires table { opened.table ≡ J.table }
     requires pages { opened.origin ≡ J.origin }
@@ -174,34 +172,31 @@ fn run_named<J: Naming + Send + Sync, R: Threads + Wait + Sync, G: Gate>(
 {
     let (heap, collector) = SharedHeap::<J>::with_journal(opened, journal);
     let on = GatedHeap {
-        rt,
-        alloc,
+        rt: setting.rt,
+        alloc: setting.alloc,
         heap: &heap,
-        helpers,
-        gate,
+        helpers: setting.helpers,
+        gate: setting.gate,
     };
     run_on(&on, collector, workload)
 }
 
 // Runs the workload on a heap of its own of so many pages, with this journal.
 fn run_with<R: Threads + Wait + Sync, G: Gate>(
-    rt: &R,
-    alloc: Global,
+    setting: &Setting<'_, R, G>,
     journal: Journal,
     workload: &Workload,
     pages: u32,
-    helpers: Helpers,
-    gate: &G,
 ) -> Result<(Replies, Journal), RunError>
     requires some { 1 ≤ pages }
     requires most { pages ≤ MAX_PAGES }
     requires journal { IsOf journal [] }
     ensures { IfOk result (λ run. IsRun pages workload.now run.0 run.1) }
 {
-    let Ok(opened) = open(alloc, pages) else {
+    let Ok(opened) = open(setting.alloc, pages) else {
         return Err(RunError::Memory);
     };
-    Ok(run_named::<Brand, _, _>(rt, alloc, opened, journal, workload, helpers, gate)?)
+    Ok(run_named::<Brand, _, _>(setting, opened, journal, workload)?)
 }
 
 /// Runs a workload on a heap of its own of so many pages: each mutator makes its calls in a thread of its own, and the collector gives
@@ -226,7 +221,13 @@ pub fn run_threads<R: Threads + Wait + Sync, G: Gate>(
     requires most { pages ≤ MAX_PAGES }
     ensures { IfOk result (λ replies. HaveOneHistory pages workload.now replies) }
 {
-    let (replies, _journal) = run_with(rt, alloc, Journal::Off, workload, pages, helpers, gate)?;
+    let setting = Setting {
+        rt,
+        alloc,
+        helpers,
+        gate,
+    };
+    let (replies, _journal) = run_with(&setting, Journal::Off, workload, pages)?;
     Ok(replies)
 }
 
@@ -248,7 +249,13 @@ pub fn run_recorded<R: Threads + Wait + Sync, G: Gate>(
     ensures { IfOk result (λ run. Explains pages (map made_of run.1.list.items) workload.now run.0) }
 {
     let journal = Journal::new(alloc);
-    let (replies, journal) = run_with(rt, alloc, journal, workload, pages, helpers, gate)?;
+    let setting = Setting {
+        rt,
+        alloc,
+        helpers,
+        gate,
+    };
+    let (replies, journal) = run_with(&setting, journal, workload, pages)?;
     let Journal::On(entries) = journal else {
         return Err(RunError::Memory);
     };

@@ -1,5 +1,5 @@
 //! Workloads, as they are read line by line.
-ghost use Rattle.std.specs.Prelude.{◌≡◌, ℕ, List, ◌-◌, ◌+◌, ◌<◌, ◌≤◌, true, [], ◌∷◌, ◌++◌, Some, All, length, slice_set, slice_index_or, OnOk, OnErr, MatchBool};
+ghost use Rattle.std.specs.Prelude.{◌≡◌, ℕ, List, ◌+◌, ◌<◌, ◌≤◌, true, [], ◌∷◌, ◌++◌, Some, All, length, slice_set, slice_index_or, OnOk, OnErr, MatchBool};
 ghost use Rattle.shared.specs.WhileAttached.{IsNoDetach};
 ghost use Rattle.scripts.specs.declared.limits.TheConstants.{LINE_BYTES};
 ghost use Rattle.scripts.specs.Ends.{read_faults, write_faults};

@@ -2,7 +2,6 @@
 ghost use Rattle.std.specs.Prelude.{◌≡◌, ◌≤◌, ◌∷◌, ◌++◌, length, map, decimal};
 ghost use Rattle.std.specs.List.{join_with_byte};
 ghost use Rattle.scripts.specs.Grammar.{call_words, kind_word};
-ghost use Rattle.scripts.specs.declared.limits.TheConstants.{LINE_BYTES};
 ghost use Rattle.workloads.specs.Stress.{line_of_command};
 
 use arrayvec::ArrayString;

@@ -1,6 +1,6 @@
 //! The marking of a cycle by helpers whom the caller runs: the core is lent to a round of them, shares go to other threads and come back,
 //! and what they won and left is put together.
-ghost use Rattle.std.specs.Prelude.{◌≡◌, ℕ, ◌+◌, ◌<◌, ◌≤◌, ◌⊎◌, true, false, IfOk, IfErr, MatchOption, MatchResult, Some, length, vec_len, slice_index_or};
+ghost use Rattle.std.specs.Prelude.{◌≡◌, ℕ, ◌+◌, ◌<◌, ◌⊎◌, true, false, IfOk, IfErr, MatchOption, length, vec_len, slice_index_or};
 ghost use Rattle.final_pause.specs.declared.helper.Helper.{Helper as HelperValue};
 ghost use Rattle.final_pause.specs.Serving.{IsServing, HasServed};
 ghost use Rattle.final_pause.specs.Rounds.{IsRound, AreServing, AreServed};

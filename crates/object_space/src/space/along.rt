@@ -1,12 +1,11 @@
 //! What leaves takes its links along: the links to it are gone, and their words are 0 where their holder stays; and the
 //! links whose words lie in it are gone.
-ghost use Rattle.std.specs.Prelude.{◌≡◌, ◌≤◌, [], ◌*◌, ◌%◌, Some, false, filter, length, MatchBool};
-ghost use Rattle.arrayvec.specs.ArrayVec.{array_vec_len};
-ghost use Rattle.words.specs.declared.limits.TheConstants.{MAX_LINKS, PAGE_WORDS, WORD_BYTES};
+ghost use Rattle.std.specs.Prelude.{◌≡◌, ◌≤◌, [], ◌%◌, filter, length};
+ghost use Rattle.words.specs.declared.limits.TheConstants.{MAX_LINKS, WORD_BYTES};
 ghost use Rattle.links.specs.Rows.{IsAlignedRow};
 ghost use Rattle.block_map.specs.FoundIn.{IsLawful};
 ghost use Rattle.object_space.specs.Kept.{kept_in};
-ghost use Rattle.object_space.specs.Along.{ClearsWords, TakesAlong, stays, is_kept_at, is_base_of};
+ghost use Rattle.object_space.specs.Along.{ClearsWords, TakesAlong, stays, is_base_of};
 
 use super::ObjectSpace;
 use arrayvec::ArrayVec;

@@ -53,6 +53,7 @@ impl ObjectSpace {
         requires objects { AreMarksObjects (found_in self.now.states) marker.old }
         requires moments { AreMoments self.now.words moments.list }
         requires beside { AreBeside (found_in self.now.states) marker.old.dirty moments.list }
+        ensures takes { Takes (found_in self.now.states) moments.list marker.old result.read marker.new }
         ensures traces { TracesIn (found_in self.now.states) moments.list marker.old marker.new }
         ensures read { result.read ≤ budget }
         ensures empty { (result.empty ≡ true) ↔ IsEmpty marker.new }

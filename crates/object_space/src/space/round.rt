@@ -1,5 +1,5 @@
 //! A round of helpers over the objects.
-ghost use Rattle.std.specs.Prelude.{◌≡◌, ℕ, ◌*◌, ◌<◌, ◌≤◌, [], List, IfOk, Some, vec_len, length};
+ghost use Rattle.std.specs.Prelude.{◌≡◌, ℕ, ◌*◌, ◌<◌, ◌≤◌, [], IfOk, Some, vec_len, length};
 ghost use Rattle.words.specs.Bits.{IsEmptyFrom};
 ghost use Rattle.words.specs.Layout.{page_of};
 ghost use Rattle.words.specs.declared.limits.TheConstants.{PAGE_GRANULES};

@@ -22,5 +22,6 @@ returns c = rw (← c.self.view_is) (
     dirty = c.mark_beside-beside.ensures.dirty;
     most = c.mark_beside-beside.ensures.read;
     fewer = c.mark_beside-beside.ensures.fewer;
+    takes = c.mark_beside-beside.ensures.takes;
   },
 )

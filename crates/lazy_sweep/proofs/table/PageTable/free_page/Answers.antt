@@ -4,7 +4,7 @@ use Rattle.block_map.proofs.Listed.{listed_span}
 use Rattle.block_map.specs.Changes.{IsCleared}
 use Rattle.block_map.specs.FoundIn.{found_in}
 use Rattle.block_map.specs.States.{free, span_of, IsSpanSet}
-use Rattle.lazy_sweep.specs.Store.{store_of}
+use Rattle.lazy_sweep.proofs.Swept.{store_of}
 use Rattle.lazy_sweep.specs.Sweeps.{SweepsPage}
 use Rattle.lazy_sweep.proofs.FreePages.{rows_freed, sweeps_freed}
 use Rattle.lazy_sweep.proofs.GivenPages.{agree_given, used_given}

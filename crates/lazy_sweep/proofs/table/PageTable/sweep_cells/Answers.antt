@@ -4,7 +4,7 @@ use Rattle.block_map.proofs.Listed.{listed_span}
 use Rattle.block_map.specs.FoundIn.{found_in}
 use Rattle.block_map.specs.States.{free, span_of, IsSpanSet}
 use Rattle.lazy_sweep.specs.Sound.{store_with}
-use Rattle.lazy_sweep.specs.Store.{store_of}
+use Rattle.lazy_sweep.proofs.Swept.{store_of}
 use Rattle.lazy_sweep.proofs.FreePages.{rows_freed}
 use Rattle.lazy_sweep.proofs.GivenPages.{no_object}
 use Rattle.lazy_sweep.proofs.SweptCells.{agree_cells, agree_gone, rows_cells, size_swept, sweeps_cells, used_cells, used_gone}

@@ -1,17 +1,16 @@
-use Rattle.std.proofs.Common.{◌≡◌, ◌+◌, ℕ, subst, arith}
+use Rattle.std.proofs.Common.{ℕ, subst, sym}
 use Rattle.block_map.specs.FoundIn.{found_in}
-use Rattle.marker.specs.Entries.{Takes, nothing, settled, turned, read}
+use Rattle.marker.specs.Entries.{TakesWhole}
+use Rattle.marker.proofs.Wholes.{whole_none, whole_turned}
 use Rattle.marker.proofs.marker.Marker.read_top.Goals as goal
 
 pub returns-in_default-clause-takes : goal.returns-in_default-clause-takes
-returns-in_default-clause-takes c = nothing
+returns-in_default-clause-takes c = whole_none (found_in c.args.map.now) c.args.reader.now.moments c.args.self.now
 
 pub returns-then-not-is_whole-clause-takes : goal.returns-then-not-is_whole-clause-takes
-returns-then-not-is_whole-clause-takes c = nothing
+returns-then-not-is_whole-clause-takes c = whole_none (found_in c.args.map.now) c.args.reader.now.moments c.args.self.now
 
 pub returns-clause-takes : goal.returns-clause-takes
 returns-clause-takes c =
-    let r = c.read_whole.ensures.read in
-    let all : 0 + c.in-Some.found.len ≡ c.from.result = (let n = c.from.ensures in omega arith) in
-    subst (λ (n : ℕ). Takes (found_in c.args.map.now) c.args.reader.now.moments c.args.self.now n c.bring_nearer.new.self) all
-    (turned (read (settled nothing r.settles) r.reads) (record { turned = c.bring_nearer.ensures.turned; spent = c.read_whole.ensures.done }))
+    subst (λ (n : ℕ). TakesWhole (found_in c.args.map.now) c.args.reader.now.moments c.args.self.now n c.bring_nearer.new.self) (sym c.from.ensures)
+    (whole_turned (found_in c.args.map.now) c.args.reader.now.moments c.args.self.now c.read_whole.new.self c.bring_nearer.new.self c.in-Some.found.len c.read_whole.ensures.takes c.bring_nearer.ensures.turned)

@@ -1,5 +1,5 @@
 -- `moments` picks those of the struct. Assumes `Logic`.
-use Rattle.std.proofs.Common.{◌+◌, List, [], ◌∷◌, ◌++◌, refl}
+use Rattle.std.proofs.Common.{List, [], ◌∷◌, ◌++◌, refl}
 use seplogic.Ra.Ura.{Ura}
 use mir.Syntax.{Fn}
 use mir.Val.{Val, vptr}

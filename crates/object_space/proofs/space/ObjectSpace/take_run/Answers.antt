@@ -1,7 +1,7 @@
 use Rattle.std.proofs.Common.{refl, ◌*◌, ap, subst, arith}
 use Rattle.words.specs.declared.limits.TheConstants.{PAGE_WORDS}
 use Rattle.pages.specs.Memory.{IsZeroed, word_index}
-use Rattle.lazy_sweep.specs.Store.{store_of}
+use Rattle.lazy_sweep.proofs.Swept.{store_of}
 use Rattle.object_space.proofs.Pending.{pending_cut, cut_span}
 use Rattle.object_space.proofs.Allocations.{allocates_large, gains_large, listed_large, no_room_large, sound_large}
 use Rattle.object_space.proofs.AvailablePages.{exact_large, waiting_span}

@@ -1,7 +1,7 @@
 use Rattle.std.proofs.Common.{◌≡◌, ◌∙◌, length, sym, ap}
 use Rattle.words.specs.Bits.{bits}
 use Rattle.dirty_pages.proofs.Adding.{or_each, or_old, or_more}
-use Rattle.dirty_pages.proofs.DirtyPages.add.Goals as goal
+use Rattle.dirty_pages.proofs.row.SummedRow.add.Goals as goal
 
 pub returns-clause-each : goal.returns-clause-each
 returns-clause-each c =

@@ -1,6 +1,6 @@
 use Rattle.std.proofs.Common.{◌-◌, length}
 use Rattle.dirty_pages.proofs.Adding.{Ors}
-use Rattle.dirty_pages.proofs.add_words.Given as goal
+use Rattle.dirty_pages.proofs.row.add_words.Given as goal
 
 abbrev pub invariant-loop-j : goal.invariant-loop-j
 invariant-loop-j l = Ors l.from l.fn.words l.more l.words

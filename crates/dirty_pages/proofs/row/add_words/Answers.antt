@@ -1,7 +1,7 @@
 use Rattle.std.proofs.Common.{◌∙◌, ap, get_or}
 use Rattle.std.specs.Int.RustNames.{bit_or}
 use Rattle.dirty_pages.proofs.Adding.{ors_step}
-use Rattle.dirty_pages.proofs.add_words.Goals as goal
+use Rattle.dirty_pages.proofs.row.add_words.Goals as goal
 
 pub loop-j-preserved : goal.loop-j-preserved
 loop-j-preserved c =

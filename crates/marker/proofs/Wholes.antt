@@ -1,0 +1,53 @@
+-- Objects that are read whole, whichever entry without a word left is the one that is being read.
+use Rattle.std.proofs.Common.{◌≡◌, ℕ, ◌+◌, ◌*◌, List, length, Option, Some, sym, ap, subst, arith}
+use Rattle.std.proofs.lemmas.Option.{same_Some}
+use Rattle.words.specs.declared.limits.TheConstants.{PAGE_GRANULES}
+use Rattle.block_map.specs.declared.found.Found.{Found}
+use Rattle.block_map.specs.Objects.{IsMap}
+use Rattle.marker.specs.declared.entry.Entry.{Entry}
+use Rattle.marker.specs.Marking.{Marking, with_current}
+use Rattle.marker.specs.Entries.{IsSpent, IsTurned, Takes, TakesWhole, nothing, turned}
+use Rattle.marker.proofs.Taking.{takes_grows, takes_trans}
+
+-- one that has no word left, as the one that is being read
+pub spent_current : (found : ℕ → Option Found) (m : Marking) (e : Entry) → IsSpent found m e → (x : Entry) → Some e ≡ Some x → IsSpent found m x
+spent_current found m e s x is = subst (IsSpent found m) (same_Some e x is) s
+
+-- no object has its base below the heap
+spent_outside : (pages : ℕ) (found : ℕ → Option Found) → IsMap pages found → (m : Marking) → IsSpent found m (record { base = 0; next = 0 })
+spent_outside pages found map m f is base normal marked = let above = (map.placed f.base f is).above in absurd (omega arith)
+
+module _ (found : ℕ → Option Found) (moments : List (List ℕ)) where
+  pub whole_none : (m : Marking) → TakesWhole found moments m 0 m
+  whole_none m e s = (e, s, nothing)
+
+  pub whole_trans : (a b c : Marking) (n k : ℕ) → TakesWhole found moments a n b → TakesWhole found moments b k c → TakesWhole found moments a (n + k) c
+  whole_trans a b c n k x y e s =
+      let p = x e s in let q = y p.0 p.1 in
+      (q.0, q.1, takes_trans found moments (with_current a e) (with_current b p.0) p.2 q.2)
+
+  -- those that wait change places
+  pub whole_turned : (a b c : Marking) (n : ℕ) → TakesWhole found moments a n b → IsTurned b c → TakesWhole found moments a n c
+  whole_turned a b c n x t e s =
+      let p = x e s in
+      let last : Entry = p.0 in (
+        last,
+        subst (λ (m : Marking). IsSpent found m last) (sym t.new_is) p.1,
+        turned p.2 (record {
+          turned = record { new_is = ap (λ (m : Marking). with_current m last) t.new_is; moves = t.moves };
+          spent = spent_current found b last p.1;
+        }),
+      )
+
+  -- from the one that is being read
+  pub whole_takes : (a b : Marking) (n : ℕ) → TakesWhole found moments a n b → (e : Entry) → a.current ≡ Some e → ((x : Entry) → a.current ≡ Some x → IsSpent found a x)
+      → (last : Entry) × IsSpent found b last × Takes found moments a n (with_current b last)
+  whole_takes a b n x e is spent =
+      let p = x e (spent e is) in
+      (p.0, p.1, subst (λ (m : Marking). Takes found moments m n (with_current b p.0)) (ap (λ (o : Option Entry). record a { current = o }) (sym is)) p.2)
+
+-- the pages are as many
+pub whole_pages : (pages : ℕ) (found : ℕ → Option Found) → IsMap pages found → (moments : List (List ℕ)) (a b : Marking) (n : ℕ) → length a.marks ≡ PAGE_GRANULES * pages → TakesWhole found moments a n b → length b.dirty ≡ length a.dirty
+whole_pages pages found map moments a b n size x =
+    let p = x (record { base = 0; next = 0 }) (spent_outside pages found map a) in
+    (takes_grows pages found map moments (with_current a (record { base = 0; next = 0 })) size p.2).dirty_len
