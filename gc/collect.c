@@ -55,12 +55,12 @@ static bool collect_fully(void *unused)
     mpgc_call_markers();
     double start = mpgc_now();
     mpgc_block_signals(&old);
-    mpgc_stop_world();
+    mpgc_stop_to_collect();
     mpgc_drop_cycle();
     mpgc_open_all();
     collect();
     mpgc_end_collection(true, start);
-    mpgc_start_world();
+    mpgc_start_after_collecting();
     mpgc_restore_signals(&old);
     mpgc_tell_end();
     return true;

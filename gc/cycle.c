@@ -7,7 +7,7 @@
 //   interrupted one of them"
 //   "the address was told by mpheap_written        after mpheap_begin, which cleans every page, `mpgc_tell_open`; before so many
 //   first, after the last mpheap_begin,            retraces `mpgc_close_lowest`; after mpheap_finish the layer's own object is
-//   mpheap_retrace, mpheap_finish .."              freed (spare.c): each before the program runs on
+//   mpheap_retrace, .. mpheap_finish .."           freed (spare.c): each before the program runs on
 //   the roots are as the program has them          at mpheap_finish: they are read just before, with nothing between. At mpheap_roots
 //                                                  they needn't be.
 //   "while the call runs, no word .. is written    mpheap_mark_beside, mpheap_retrace_beside and mpheap_retrace_page_beside are called
@@ -140,7 +140,7 @@ static bool go_on(void *left)
     enum piece piece = mpgc_first_piece();
     while (piece != NO_PIECE) {
         if (!has_stopped && needs_stop(piece)) {
-            mpgc_stop_world();
+            mpgc_stop_to_collect();
             has_stopped = true;
         }
         if (has_stopped && mpgc_is_beside() && !mpgc_first_is_at_home()) {
@@ -150,7 +150,7 @@ static bool go_on(void *left)
         if (!has_stopped) mpgc_tell_noted();
         piece = mpgc_piece_after(piece, do_piece(piece, words), &words);
     }
-    if (has_stopped) mpgc_start_world();
+    if (has_stopped) mpgc_start_after_collecting();
     mpgc_restore_signals(&old);
     if (was_marking && !mpgc.is_marking) mpgc_tell_end();
     return true;

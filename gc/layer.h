@@ -1,7 +1,7 @@
 // What the audited files of libmpgc know of each other. x86-64, Linux, the GNU C library. Trusted, and not proved.
 //
 // Below them stands the proved heap of mpheap_c, above them a C program that knows bdwgc's gc.h, and may do what it likes. The proofs hold
-// for the program as far as these files keep what mpheap.h asks of a caller. They alone could lose an object or break memory: 2,955 lines
+// for the program as far as these files keep what mpheap.h asks of a caller. They alone could lose an object or break memory: 3,057 lines
 // of code in this folder, without blank ones and comments. Why names/ and kernel/ can't is said in front.h. This is all that they owe, in
 // the order in which they are best read, and the head of each says by which lines it pays:
 //
@@ -46,14 +46,17 @@ _Static_assert(MAX_PAGES % 64 == 0, "the heap isn't 64 groups of pages");
 
 // Small objects that one call asked for. They are numbered as they are given out, and no number comes twice: those from `next` on, before
 // `end`, are still to be given out, and each stands at the place that its number's last bits say.
-enum { RUN_GRANULES = 16, RUN_WORDS = 256, RUN_OBJECTS = 64, PINS = 8 };
-struct run { uint64_t next, end, bases[RUN_OBJECTS]; };
+enum { RUN_GRANULES = 128, RUN_SIZES = 13, RUN_OBJECTS = 64, PINS = 8 };
+struct run {
+    uint64_t next, end, bases[RUN_OBJECTS];
+    uint64_t words;  // that each of those counted for which were asked for last: a figure alone
+};
 
 // Counted under threads.
 // A thread that is known (threads.c). The lock is held where one is linked or unlinked, and by who reads another's.
 enum thread_state { STARTING, RUNNING, BLOCKED, ENDED };
 struct thread {
-    struct run runs[2][RUN_GRANULES + 1];  // of each kind, and of each number of granules: the thread's own
+    struct run runs[2][RUN_SIZES];         // of each kind, and of each size that the core makes: the thread's own
     struct thread *next;
     pthread_t id;
     uint32_t number;                       // by which the kernel knows it
@@ -73,6 +76,7 @@ struct thread {
     void ***keys;                          // what it has by pthread_setspecific
     struct pages { size_t from, to; } pinned[PINS];  // pages that the kernel may write to for it
     size_t pins;
+    sigset_t signals;                      // that it blocks, once it runs
     void *(*start)(void *);
     void *data;                            // what it was given, until it runs, and what it answered, when it has ended
 };
@@ -89,9 +93,9 @@ struct layer {
     size_t size;                       // those that were ever used, of which the program is told
     uint64_t ended;                    // so many collections have
     uint8_t kind[MAX_PAGES];           // enum page_kind
-    uint8_t granules[MAX_PAGES];       // of each object on the page, where they are no more than those of runs; else 0
+    uint8_t granules[MAX_PAGES];       // of each object on the page, where it is one of runs; else 0
     uint8_t has_more[MAX_PAGES];       // more is known of an object there, or was, than mpgc_take_back asks for
-    uint32_t filled[MAX_PAGES];        // behind how many collections, and one, the page's objects were last given to runs
+    uint32_t filled[MAX_PAGES];        // behind how many collections, and one, objects of the page were last given to runs, or found kept
     uint64_t young[MAX_PAGES * PAGE / GRANULE / 64];  // and which: a bit a granule, at their bases, but not of those freed since
     volatile uint8_t is_closed[MAX_PAGES];
     volatile uint8_t is_noted[MAX_PAGES];
@@ -107,9 +111,11 @@ HIDDEN extern struct layer mpgc;
 static inline bool mpgc_is_inside(uintptr_t address) { return address - FIRST < MAX_PAGES * PAGE; }
 static inline size_t mpgc_page_of(uintptr_t address) { return (address - FIRST) / PAGE; }
 
+// runs.c. Where among the runs of a kind that one is which has objects of so many granules or, where there are none, of the next size: in bytes.
+HIDDEN extern const uint16_t mpgc_run_at[RUN_GRANULES + 1];
 static inline struct run *mpgc_run_of(struct thread *thread, size_t granules, enum page_kind kind)
 {
-    return &thread->runs[kind == POINTER_FREE][granules];
+    return (struct run *)((char *)thread->runs[kind == POINTER_FREE] + mpgc_run_at[granules]);
 }
 
 // Counted under threads.
@@ -121,6 +127,8 @@ static inline void mpgc_enter(void)
     if (!LIKELY(mpgc_self)) mpgc_open();
 }
 HIDDEN void mpgc_know_first(void);
+typedef int mpgc_creator(pthread_t *thread, const pthread_attr_t *attributes, void *(*start)(void *), void *data);
+HIDDEN mpgc_creator *mpgc_next_creator(void);
 HIDDEN void mpgc_know_this(const struct GC_stack_base *base);
 HIDDEN bool mpgc_first_is_at_home(void);
 HIDDEN void mpgc_scan_threads(void (*scan)(const char *from, const char *to), void (*push)(uint64_t word));
@@ -152,6 +160,8 @@ static inline void mpgc_unlock(void)
 // may be called again. `mpgc_make_stoppable` lets this thread be stopped.
 HIDDEN void mpgc_stop_world(void);
 HIDDEN void mpgc_start_world(void);
+HIDDEN void mpgc_stop_to_collect(void);  // these two tell the program, which makes no request then
+HIDDEN void mpgc_start_after_collecting(void);
 HIDDEN bool mpgc_world_is_stopped(void);
 HIDDEN void mpgc_make_stoppable(void);
 HIDDEN void mpgc_wait_suspended(void);
@@ -200,7 +210,7 @@ static inline void mpgc_call_ends(void)
 
 // requests.c and runs.c
 HIDDEN void mpgc_free_in(uint64_t base);
-HIDDEN extern const uint8_t mpgc_cells[RUN_GRANULES + 1];
+HIDDEN uint8_t mpgc_size_for(size_t granules);
 HIDDEN bool mpgc_fill_run(struct run *run, size_t granules, enum page_kind kind);
 HIDDEN void mpgc_empty_runs(struct thread *thread);
 HIDDEN void mpgc_push_runs(const struct thread *thread, void (*push)(uint64_t word));

@@ -11,7 +11,8 @@
 //
 // Nobody sleeps without being woken: who sleeps is counted before he marks the word, and who takes it marks it if any are counted.
 //
-// Who was woken finds it taken again by a thread that takes it step after step: so that one gives way between two (mpgc_give_way).
+// Who was woken finds it taken again by a thread that takes it step after step: so that one gives way between two (mpgc_give_way). And whoever
+// gives it away waits until another has got it, or a moment has passed, once one says that he was woken in vain.
 // Counted under threads.
 #include "layer.h"
 #include <errno.h>
@@ -21,7 +22,7 @@
 #include <unistd.h>
 
 #define WAITED_FOR ((uint32_t)1 << 31)
-enum { SPINS = 500, MOST_WAYS = 16 };  // looks: some tens of microseconds
+enum { SPINS = 500, MOST_WAYS = 16, VAIN = 3 };  // looks: some tens of microseconds; and so often one is woken in vain without a word
 
 _Thread_local unsigned mpgc_lock_depth;
 static _Atomic uint32_t word;  // the number of the thread that has it, or 0; and whether others wait
@@ -29,7 +30,8 @@ static _Thread_local uint32_t me __attribute__((tls_model("initial-exec")));
 static _Atomic uint32_t waiting;  // so many threads wait for it
 static _Atomic uint32_t sleeping; // so many of these sleep, or are about to
 static _Atomic uint32_t handed;   // so often one of these has got it
-static atomic_bool gives_way;     // and a thread sleeps until the next one has
+static _Atomic uint32_t giving;   // so many threads sleep until the next one has
+static atomic_bool starves;       // one was woken in vain, and nobody has given way since
 
 uint32_t mpgc_my_number(void)
 {
@@ -63,11 +65,12 @@ static void sleep_on(uint32_t seen)
 // each thread that gives it away.
 static void take_late(void)
 {
-    for (;;) {
+    for (unsigned woken = 0;; woken++) {
         for (int k = 0; k < SPINS; k++) {
             if (take_if_free()) return;
             __builtin_ia32_pause();
         }
+        if (woken >= VAIN) starves = true;
         uint32_t seen = word;
         if (seen != 0) sleep_on(seen);
     }
@@ -79,22 +82,27 @@ static void wait_for_it(void)
     take_late();
     waiting--;
     handed++;
-    if (gives_way) syscall(SYS_futex, &handed, FUTEX_WAKE_PRIVATE, 1, NULL, NULL, 0);
+    if (giving > 0) syscall(SYS_futex, &handed, FUTEX_WAKE_PRIVATE, INT32_MAX, NULL, NULL, 0);
+}
+
+// One of those that wait has got it, unless a moment has passed: he may have been told to wait himself (world.c).
+static bool let_one_have_it(void)
+{
+    static const struct timespec moment = { 0, 1000000 };
+    int kept = errno;
+    uint32_t seen = handed;
+    giving++;
+    bool is_late = waiting > 0 && syscall(SYS_futex, &handed, FUTEX_WAIT_PRIVATE, seen, &moment, NULL, 0) != 0 && errno == ETIMEDOUT;
+    giving--;
+    errno = kept;
+    return !is_late;
 }
 
 // Counted under the collector's thread.
-// Who has given it away, and will take it again at once, lets those have it first that wait; but for no longer than a moment, since one of
-// them may have been told to wait itself (world.c).
+// Who has given it away, and will take it again at once, lets those have it first that wait.
 void mpgc_give_way(void)
 {
-    static const struct timespec moment = { 0, 1000000 };
-    for (unsigned k = 0; k < MOST_WAYS && waiting > 0; k++) {
-        uint32_t seen = handed;
-        gives_way = true;
-        bool is_late = waiting > 0 && syscall(SYS_futex, &handed, FUTEX_WAIT_PRIVATE, seen, &moment, NULL, 0) != 0 && errno == ETIMEDOUT;
-        gives_way = false;
-        if (is_late) return;
-    }
+    for (unsigned k = 0; k < MOST_WAYS && waiting > 0 && let_one_have_it(); k++) continue;
 }
 
 // Counted under threads.
@@ -114,6 +122,7 @@ void mpgc_unlock_slowly(void)
     for (uint32_t seen = word; (seen & ~WAITED_FOR) == me; seen = word) {
         if (!change(seen, 0)) continue;
         if (seen & WAITED_FOR) syscall(SYS_futex, &word, FUTEX_WAKE_PRIVATE, 1, NULL, NULL, 0);
+        if (starves && atomic_exchange(&starves, false)) (void)let_one_have_it();
         return;
     }
 }
@@ -133,6 +142,7 @@ void mpgc_lock_in_child(void)
     me = 0;
     waiting = 0;
     sleeping = 0;
+    giving = 0;
     if (mpgc.is_threaded) word = mpgc_my_number();
 }
 

@@ -17,7 +17,6 @@
 // blocked. They end with the program's last thread, so that the process does, and in the child of a fork they aren't there.
 // Counted under marking side by side.
 #include "layer.h"
-#include "kernel/next.h"
 #include <errno.h>
 #include <linux/futex.h>
 #include <sys/mman.h>
@@ -120,7 +119,6 @@ static bool has_memory(void)
 
 static bool make(unsigned marker)
 {
-    NEXT(int, pthread_create, (pthread_t *, const pthread_attr_t *, void *(*)(void *), void *));
     unsigned which = number_of(marker);
     pthread_t thread;
     pthread_attr_t attributes;
@@ -129,7 +127,7 @@ static bool make(unsigned marker)
     pthread_attr_setdetachstate(&attributes, PTHREAD_CREATE_DETACHED);
     pthread_attr_setstacksize(&attributes, STACK_BYTES);
     alive++;
-    bool is_made = next(&thread, &attributes, serve, (void *)(uintptr_t)which) == 0;
+    bool is_made = mpgc_next_creator()(&thread, &attributes, serve, (void *)(uintptr_t)which) == 0;
     if (!is_made) alive--;
     pthread_attr_destroy(&attributes);
     return is_made;

@@ -3,7 +3,7 @@
 // What it owes the core, of mpheap.h:
 //
 //   "if the object is not pointer-free and the word lies in the heap's range of addresses, the address was told by mpheap_written first,
-//   after the last mpheap_begin, mpheap_retrace, mpheap_finish or mpheap_collect"
+//   after the last mpheap_begin, mpheap_retrace, mpheap_gather, mpheap_finish or mpheap_collect"
 //                                                  mpheap_written, clause TellsWritten; mpheap_retrace, clauses RetracesLowest.lowest and
 //                                                  Retraces.others; mpheap_retrace_page_beside, clauses ReadsThisPage and Retraces.others
 //

@@ -27,6 +27,7 @@ static size_t extra(void) { return GC_all_interior_pointers ? 1 : 0; }
 // The lock is held.
 void mpgc_free_in(uint64_t base)
 {
+    mpgc_note_freed(base);
     mpgc_inner_call_begins();
     mpheap_set(&mpgc.heap, mpgc.slot, FREED, base);
     uint32_t status = mpheap_free(&mpgc.heap, mpgc.slot, FREED);
@@ -45,7 +46,7 @@ static uint64_t ask(size_t words, enum page_kind kind)
                                   : mpheap_alloc_pointer_free_base(&mpgc.heap, mpgc.slot, INTO, words, &base));
     if (status != MPHEAP_OK) return 0;
     size_t granules = granules_of(words);
-    mpgc.granules[mpgc_page_of(base)] = granules > RUN_GRANULES ? 0 : mpgc_cells[granules];
+    mpgc.granules[mpgc_page_of(base)] = granules > RUN_GRANULES ? 0 : mpgc_size_for(granules);
     bool is_known = mpgc.kind[mpgc_page_of(base)] == kind && words <= PAGE / WORD;
     if (LIKELY(is_known) || mpgc_learn(base, words, kind)) return base;
     mpgc_free_in(base);
@@ -117,14 +118,14 @@ __attribute__((always_inline)) static inline void *allocate(size_t bytes, enum p
 {
     struct thread *self = mpgc_self;
     if (!LIKELY(self && bytes - 1 < RUN_GRANULES * GRANULE - 1)) return allocate_anew(bytes, kind);
-    size_t words = (bytes + extra() + WORD - 1) / WORD;
-    uint64_t base = next_of(mpgc_run_of(self, granules_of(words), kind));
+    uint64_t base = next_of(mpgc_run_of(self, (bytes + extra() + GRANULE - 1) / GRANULE, kind));
     return LIKELY(base != 0) ? (void *)base : allocate_anew(bytes, kind);
 }
 
-void *GC_malloc(size_t bytes) { return allocate(bytes, ORDINARY); }
+// Each begins a line of the cache, which a request takes a third longer without.
+__attribute__((aligned(64))) void *GC_malloc(size_t bytes) { return allocate(bytes, ORDINARY); }
 
-void *GC_malloc_atomic(size_t bytes) { return allocate(bytes, POINTER_FREE); }
+__attribute__((aligned(64))) void *GC_malloc_atomic(size_t bytes) { return allocate(bytes, POINTER_FREE); }
 
 // What the program's GC_oom_fn answered lies outside of the heap, and is no object of it.
 static void *keep(void *object)
@@ -160,21 +161,23 @@ static size_t words_at(uint64_t base)
     return granules != 0 ? granules * (GRANULE / WORD) : GC_size((void *)base) / WORD;
 }
 
-// Freed last: from then on a signal's handler may be given what lies there, and what is known of it is of the new object.
+// Freed last: from then on a signal's handler may be given what lies there, and what is known of it is of the new object. Where the page has
+// no object of which more is known, nothing is to be forgotten.
 __attribute__((noinline)) static void free_by_core(uint64_t base)
 {
     mpgc_enter();
     mpgc_lock();
     if (mpgc_is_in_run(base)) mpgc_stop("GC_free of what was freed before");
     size_t words = words_at(base);
-    mpgc_forget_finalizer(base);
-    mpgc_forget_described(base);
+    if (mpgc_is_inside(base) && mpgc.has_more[mpgc_page_of(base)]) {
+        mpgc_forget_finalizer(base);
+        mpgc_forget_described(base);
+    }
     mpgc_figures.freed += words;
     if (mpgc_is_uncollectable(base)) {
         mpgc_set_uncollectable(base, false);
         GC_non_gc_bytes -= words * WORD;
     }
-    mpgc_note_freed(base);
     mpgc_free_in(base);
     mpgc_unlock();
 }
@@ -184,11 +187,25 @@ void GC_free(void *object)
     if (object && !mpgc_take_back((uintptr_t)object)) free_by_core((uintptr_t)object);
 }
 
+// Another object of the old one's kind. One of a kind that the program made is asked for where such kinds are known; and to read every word of
+// one that was typed loses nothing.
+static void *alike(const void *old, size_t bytes)
+{
+    enum { NONE = -1 };
+    int kind = mpgc_described_kind((uintptr_t)old);
+    uintptr_t base;
+    size_t words;
+    if (kind < 0) return kind == NONE && mpgc_kind_at((uintptr_t)old) != ORDINARY ? GC_malloc_atomic(bytes) : GC_malloc(bytes);
+    void *object = mpgc_malloc_kind(bytes, kind);
+    bool has_room = mpgc_find((uintptr_t)object, &base, &words) && base == (uintptr_t)object && words * WORD >= bytes;
+    if (mpgc_is_inside((uintptr_t)object) && !has_room) mpgc_stop("an object of a kind is too short");
+    return object;
+}
+
 // What stood in the object, in a larger or much smaller one of the same kind, which stays if that one did.
 static void *move(void *old, size_t old_bytes, size_t bytes)
 {
-    bool is_ordinary = mpgc_kind_at((uintptr_t)old) == ORDINARY;
-    void *object = is_ordinary ? GC_malloc(bytes) : GC_malloc_atomic(bytes);
+    void *object = alike(old, bytes);
     if (mpgc_is_uncollectable((uintptr_t)old)) object = keep(object);
     if (!object) return NULL;
     memcpy(object, old, bytes < old_bytes ? bytes : old_bytes);

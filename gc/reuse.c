@@ -1,10 +1,11 @@
-// What a thread frees it is given again, without the lock and without the core, to which it stays an object. Trusted, not proved.
+// What a thread frees it is given again, without the core, to which it stays an object, and mostly without the lock. Trusted, not proved.
 //
 // What it owes the core, of mpheap.h:
 //
-//   "any 64-bit word may be put at any 8-aligned         only an object is taken back that a run has given out since the last collection and
-//   address of an object that is kept at that moment"    that the core hasn't freed since, which is written down here: so it is one, and it
-//                                                        stays one, first as the program's and then as the run's (mpgc_push_runs)
+//   "any 64-bit word may be put at any 8-aligned         only an object is taken back that a run was given since the last collection, or that
+//   address of an object that is kept at that moment"    the core has said since that it keeps (mpheap_kept_at, clause IsKeptAt), and that the
+//                                                        core hasn't freed since, which is written down here: so it is one, and it stays one,
+//                                                        first as the program's and then as the run's (mpgc_push_runs)
 //   each object is given out to one alone                it is put behind those of the thread's own run, once: whoever frees it again, with
 //                                                        nothing put into it meanwhile, is stopped with a sentence
 //   "the address was told by mpheap_written first"       it is filled with 0, which is no address
@@ -40,12 +41,11 @@ UNSEEN void mpgc_note_young(const uint64_t *bases, uint64_t count)
     }
 }
 
-// The core frees it. The lock is held.
+// The core frees it, if it is an object. The lock is held.
 UNSEEN void mpgc_note_freed(uintptr_t base)
 {
     size_t granule = (base - FIRST) / GRANULE;
-    are_freed = true;
-    if (is_young(base)) mpgc.young[granule / 64] &= ~((uint64_t)1 << granule % 64);
+    if (mpgc_is_inside(base) && is_young(base)) mpgc.young[granule / 64] &= ~((uint64_t)1 << granule % 64);
 }
 
 // More is known of the object than its size and kind, and whether it is uncollectable; or was.
@@ -54,18 +54,12 @@ void mpgc_know_more(uintptr_t base)
     if (mpgc_is_inside(base)) mpgc.has_more[mpgc_page_of(base)] = true;
 }
 
-// Runs of so many granules, and of fewer, have objects of so many.
-static const uint8_t least[RUN_GRANULES + 1] = { 0, 1, 2, 3, 4, 5, 5, 7, 7, 9, 9, 9, 9, 13, 13, 13, 13 };
-
-// Of the thread's runs that have such objects, one that was filled before: that with the fewest left.
-UNSEEN static struct run *run_for(struct thread *self, size_t granules, enum page_kind kind)
+// Whether a run may have one more of these. It holds no more than four pages of memory back.
+static bool has_room(const struct run *run, size_t granules)
 {
-    struct run *best = NULL;
-    for (size_t k = least[granules]; k <= granules; k++) {
-        struct run *run = mpgc_run_of(self, k, kind);
-        if (run->end != 0 && (!best || run->end - run->next < best->end - best->next)) best = run;
-    }
-    return best;
+    enum { MOST_GRANULES = 4 * PAGE / GRANULE };
+    uint64_t count = run->end - *(volatile uint64_t *)&run->next;
+    return count < RUN_OBJECTS && (count + 1) * granules <= MOST_GRANULES;
 }
 
 UNSEEN static bool is_empty(const uint64_t *words, size_t granules)
@@ -81,8 +75,8 @@ UNSEEN static bool put_back(struct thread *self, struct run *run, uintptr_t base
 {
     self->takes_back = 1;
     atomic_signal_fence(memory_order_seq_cst);
-    bool has_room = run->end - *(volatile uint64_t *)&run->next < RUN_OBJECTS;
-    if (has_room) {
+    bool has_put = has_room(run, granules);
+    if (has_put) {
         memset((void *)base, 0, granules * GRANULE);
         run->bases[run->end % RUN_OBJECTS] = base;
         atomic_signal_fence(memory_order_seq_cst);
@@ -91,19 +85,32 @@ UNSEEN static bool put_back(struct thread *self, struct run *run, uintptr_t base
     }
     atomic_signal_fence(memory_order_seq_cst);
     self->takes_back = 0;
-    return has_room;
+    return has_put;
 }
 
-// Answers whether it was taken back.
+// Of an older one the core is asked whether it is an object's base, and that is written down.
+static bool is_kept(uintptr_t base)
+{
+    uintptr_t found;
+    size_t words;
+    mpgc_lock();
+    bool is_one = mpgc_find(base, &found, &words) && found == base;
+    are_freed = true;
+    if (is_one) mpgc_note_young(&base, 1);
+    mpgc_unlock();
+    return is_one;
+}
+
+// Answers whether it was taken back. Whose run it lies in already is empty, and goes on to be looked for (mpgc_is_in_run).
 UNSEEN bool mpgc_take_back(uintptr_t base)
 {
     struct thread *self = mpgc_self;
     if (!self || self->takes_back || !mpgc_is_inside(base)) return false;
     size_t page = mpgc_page_of(base), granules = mpgc.granules[page];
-    if (granules == 0 || mpgc.has_more[page] || !is_young(base)) return false;
-    if ((mpgc.reserved > 0 && mpgc_is_uncollectable(base)) || is_empty((const uint64_t *)base, granules)) return false;
-    struct run *run = run_for(self, granules, mpgc.kind[page]);
-    return run && put_back(self, run, base, granules);
+    if (granules == 0 || mpgc.has_more[page] || (mpgc.reserved > 0 && mpgc_is_uncollectable(base))) return false;
+    struct run *run = mpgc_run_of(self, granules, mpgc.kind[page]);
+    if (run->end == 0 || !has_room(run, granules) || !(is_young(base) || is_kept(base))) return false;
+    return !is_empty((const uint64_t *)base, granules) && put_back(self, run, base, granules);
 }
 
 UNSEEN static bool has(const struct run *run, uintptr_t base)
@@ -119,10 +126,9 @@ UNSEEN bool mpgc_is_in_run(uintptr_t base)
     size_t granules = mpgc_is_inside(base) ? mpgc.granules[mpgc_page_of(base)] : 0;
     if (granules == 0 || base % GRANULE != 0 || base % PAGE + granules * GRANULE > PAGE || !is_empty((const uint64_t *)base, granules)) return false;
     enum page_kind kind = mpgc.kind[mpgc_page_of(base)];
-    for (struct thread *one = mpgc.threads; one; one = one->next)
-        for (size_t k = least[granules]; k <= granules && one->state != ENDED; k++)
-            if (has(mpgc_run_of(one, k, kind), base)) return true;
-    return false;
+    struct thread *one = mpgc.threads;
+    while (one && (one->state == ENDED || !has(mpgc_run_of(one, granules, kind), base))) one = one->next;
+    return one;
 }
 
 // Words that the program freed since it was last asked, and that count as asked for again.

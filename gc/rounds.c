@@ -10,6 +10,7 @@
 //   "on handles that are open"                           the first `opened` of these: no worker of a higher number has work
 //   "of one round"                                       there is one heap, and `lead` gathers what it dealt
 //   what is left: "no entry", and "dirty pages"          ending.c reads these behind the last round, as it would without one
+//   "told anew" behind mpheap_gather                     a round is made in full collections alone, up to whose end the program writes nothing
 //
 // What hangs from one entry is read by one helper. So the first round is short, and what is left then lies on pages, which the next one deals
 // object by object; each round may be longer than the one before. Where one helper did most of it, as with a long list, the collecting

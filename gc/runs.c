@@ -10,7 +10,23 @@
 // Counted under the rest.
 #include "layer.h"
 
-enum { INTO = 0 };  // a register
+enum { INTO = 0, RUN_WORDS = 256 };  // a register, and so many words are asked for at once
+
+// In granules, the sizes of the core's small objects.
+static const uint8_t sizes[RUN_SIZES] = { 1, 2, 3, 4, 6, 8, 12, 16, 24, 32, 48, 64, RUN_GRANULES };
+
+#define AT(number) ((number) * sizeof(struct run))
+#define TWO(number) AT(number), AT(number)
+#define FOUR(number) TWO(number), TWO(number)
+#define EIGHT(number) FOUR(number), FOUR(number)
+#define SIXTEEN(number) EIGHT(number), EIGHT(number)
+#define SIXTY_FOUR(number) SIXTEEN(number), SIXTEEN(number), SIXTEEN(number), SIXTEEN(number)
+const uint16_t mpgc_run_at[RUN_GRANULES + 1] = {
+    AT(0), AT(0), AT(1), AT(2), AT(3), TWO(4), TWO(5), FOUR(6), FOUR(7), EIGHT(8), EIGHT(9), SIXTEEN(10), SIXTEEN(11), SIXTY_FOUR(12)
+};
+
+// Of how many granules the core makes an object of so many.
+uint8_t mpgc_size_for(size_t granules) { return sizes[mpgc_run_at[granules] / sizeof(struct run)]; }
 
 // No more than what may be asked for before the next look at what is due, but one.
 static size_t most_of(size_t words)
@@ -30,9 +46,6 @@ static uint64_t ask(uint64_t *bases, size_t words, enum page_kind kind)
     mpgc_inner_call_ends();
     return count;
 }
-
-// Of so many granules the core makes an object of so many.
-const uint8_t mpgc_cells[RUN_GRANULES + 1] = { 0, 1, 2, 3, 4, 6, 6, 8, 8, 12, 12, 12, 12, 16, 16, 16, 16 };
 
 static bool is_known(uint64_t base, size_t words, enum page_kind kind)
 {
@@ -61,14 +74,16 @@ static void publish(struct run *run, const uint64_t *bases, uint64_t count)
 bool mpgc_fill_run(struct run *run, size_t granules, enum page_kind kind)
 {
     uint64_t bases[RUN_OBJECTS];
-    size_t words = granules * (GRANULE / WORD);
+    uint8_t size = mpgc_size_for(granules);
+    size_t words = size * (GRANULE / WORD);
     uint64_t known = 0, ended = mpgc.ended, count = ask(bases, words, kind);
-    while (known < count && is_known(bases[known], words, kind)) mpgc.granules[mpgc_page_of(bases[known++])] = mpgc_cells[granules];
+    while (known < count && is_known(bases[known], words, kind)) mpgc.granules[mpgc_page_of(bases[known++])] = size;
     if (ended != mpgc.ended) return run->next < run->end;
     for (uint64_t k = known; k < count; k++) mpgc_free_in(bases[k]);
     mpgc_note_young(bases, known);
     publish(run, bases, known);
-    mpgc_figures.since += known * words;
+    run->words = granules * (GRANULE / WORD);
+    mpgc_figures.since += known * run->words;
     return known > 0;
 }
 
@@ -79,8 +94,7 @@ UNSEEN size_t mpgc_words_in_runs(void)
     mpgc_lock();
     for (const struct thread *one = mpgc.threads; one; one = one->next) {
         const struct run *all = one->runs[0];
-        for (size_t k = 0; k < 2 * (RUN_GRANULES + 1); k++)
-            words += (all[k].end - all[k].next) * (k % (RUN_GRANULES + 1)) * (GRANULE / WORD);
+        for (size_t k = 0; k < 2 * RUN_SIZES; k++) words += (all[k].end - all[k].next) * all[k].words;
     }
     mpgc_unlock();
     return words;
@@ -90,7 +104,7 @@ UNSEEN size_t mpgc_words_in_runs(void)
 void mpgc_empty_runs(struct thread *thread)
 {
     struct run *all = thread->runs[0];
-    for (size_t k = 0; k < 2 * (RUN_GRANULES + 1); k++)
+    for (size_t k = 0; k < 2 * RUN_SIZES; k++)
         for (; all[k].next < all[k].end; all[k].next++) mpgc_free_in(all[k].bases[all[k].next % RUN_OBJECTS]);
 }
 
@@ -98,6 +112,6 @@ void mpgc_push_runs(const struct thread *thread, void (*push)(uint64_t word))
 {
     const struct run *all = thread->runs[0];
     uint64_t more = thread->takes_back ? 1 : 0;  // it is behind the last
-    for (size_t k = 0; k < 2 * (RUN_GRANULES + 1); k++)
+    for (size_t k = 0; k < 2 * RUN_SIZES; k++)
         for (uint64_t number = all[k].next; number < all[k].end + more; number++) push(all[k].bases[number % RUN_OBJECTS]);
 }

@@ -52,8 +52,20 @@ static const char *stack_under(const void *context)
     return is_on_alt ? mpgc_self->under : at - RED_ZONE;
 }
 
-// A write to a page of the heap: nothing but the barrier makes it fault. Another thread may have opened the page since: then the write is
-// done again. The lock may be another's for as long as a step of a collection: so this thread can be stopped here.
+// Another thread may have opened the page since: then the write is done again. Where that faults again and again, the program has protected the
+// page itself.
+static bool is_of_program(uintptr_t address)
+{
+    enum { OFTEN = 100 };
+    static _Thread_local uintptr_t last __attribute__((tls_model("initial-exec")));
+    static _Thread_local unsigned times __attribute__((tls_model("initial-exec")));
+    times = address == last ? times + 1 : 1;
+    last = times < OFTEN ? address : 0;
+    return times >= OFTEN;
+}
+
+// A write to a page of the heap: mostly nothing but the barrier makes it fault. The lock may be another's for as long as a step of a
+// collection: so this thread can be stopped here.
 static void on_fault(int number, siginfo_t *info, void *context)
 {
     uintptr_t address = (uintptr_t)info->si_addr;
@@ -68,10 +80,12 @@ static void on_fault(int number, siginfo_t *info, void *context)
     if (mpgc_self) mpgc_self->under = stack_under(context);
     mpgc_lock();
     mpgc_figures.faults++;
-    if (mpgc.is_closed[mpgc_page_of(address)]) mpgc_let_write(mpgc_page_of(address));
+    bool was_closed = mpgc.is_closed[mpgc_page_of(address)];
+    if (was_closed) mpgc_let_write(mpgc_page_of(address));
     mpgc_unlock();
     if (mpgc_self) mpgc_self->under = was_under;
     errno = kept;
+    if (!was_closed && is_of_program(address)) mpgc_pass_on(number, info, context);
 }
 
 // To be called before pages are closed, under blocked signals: where the C library's calls aren't taken (kernel/handlers.c), the program may

@@ -58,6 +58,14 @@ struct thread *mpgc_record_of(pthread_t id)
 
 // ---- Coming ----
 
+// The C library's function that makes a thread. It is found when the layer starts: who looks for it waits for a dlopen, and that may wait for
+// the lock.
+mpgc_creator *mpgc_next_creator(void)
+{
+    NEXT(int, pthread_create, (pthread_t *, const pthread_attr_t *, void *(*)(void *), void *));
+    return next;
+}
+
 // This thread is the record's. Its stack is asked for before the lock is taken, since the C library may take locks for it.
 static void find_this(struct thread *self, const struct GC_stack_base *base)
 {
@@ -72,6 +80,7 @@ static void on_goodbye(void *record);
 void mpgc_know_first(void)
 {
     find_this(&mpgc.first, NULL);
+    (void)mpgc_next_creator();
     mpgc.first.id = pthread_self();
     if (!GC_stackbottom) GC_stackbottom = (char *)(uintptr_t)mpgc.first.bottom;
     mpgc.first.state = RUNNING;
@@ -81,16 +90,27 @@ void mpgc_know_first(void)
     (void)mpgc_set_own_key(key, &mpgc.first);
 }
 
-// The record's thread runs: what it was given is on its stack from now on. The destructor comes once it is known.
+static void become(enum thread_state state)
+{
+    mpgc_lock();
+    while (state == RUNNING && mpgc_self->is_suspended) {
+        mpgc_unlock();
+        mpgc_wait_suspended();
+        mpgc_lock();
+    }
+    mpgc_self->state = (int)state;
+    mpgc_unlock();
+}
+
+// The record's thread runs, unless the program has suspended it already: what it was given is on its stack from then on. The destructor comes
+// once it is known.
 static void *run_as(struct thread *self)
 {
     mpgc_make_stoppable();
-    mpgc_lock();
+    mpgc_self = self;
+    become(RUNNING);
     void *data = self->data;
     self->data = NULL;
-    self->state = RUNNING;
-    mpgc_self = self;
-    mpgc_unlock();
     (void)mpgc_set_own_key(key, self);
     return data;
 }
@@ -123,27 +143,42 @@ static void *begin(void *record)
     struct thread *self = record;
     find_this(self, NULL);
     void *data = run_as(self);
-    return self->data = self->start(data);
+    mpgc_restore_signals(&self->signals);
+    void *answer = self->start(data);
+    if (mpgc_self == self) self->data = answer;  // else it has said that it goes, and the record is gone
+    return answer;
+}
+
+// No handler of the program runs on the new thread before that can be stopped: it might write while the world is. With the lock the thread isn't
+// known by a number before that is here. (Who waits for the lock can be stopped: so signals are blocked behind it.)
+static int create(struct thread *record, pthread_t *thread, const pthread_attr_t *attributes, void *data)
+{
+    sigset_t old;
+    mpgc_lock();
+    mpgc_block_signals(&old);
+    if (!attributes || pthread_attr_getsigmask_np(attributes, &record->signals) != 0) record->signals = old;
+    sigdelset(&record->signals, SIGSEGV);
+    sigdelset(&record->signals, SIGPWR);
+    link_record(record);
+    record->data = data;  // not before, when the record is no root and this thread may be stopped
+    int answer = mpgc_next_creator()(&record->id, attributes, begin, record);
+    *thread = record->id;
+    if (answer != 0) unlink_record(record);
+    mpgc_restore_signals(&old);
+    mpgc_unlock();
+    return answer;
 }
 
 int GC_pthread_create(pthread_t *thread, const pthread_attr_t *attributes, void *(*start)(void *), void *data)
 {
-    NEXT(int, pthread_create, (pthread_t *, const pthread_attr_t *, void *(*)(void *), void *));
     int is_detached = PTHREAD_CREATE_JOINABLE;
     mpgc_enter();
     be_threaded();
     struct thread *record = new_record();
     record->start = start;
-    record->data = data;
     if (attributes) pthread_attr_getdetachstate(attributes, &is_detached);
     record->is_detached = is_detached == PTHREAD_CREATE_DETACHED;
-    mpgc_lock();  // so that the new thread isn't known by a number before that is here
-    link_record(record);
-    int answer = next(&record->id, attributes, begin, record);
-    *thread = record->id;
-    if (answer != 0) unlink_record(record);
-    mpgc_unlock();
-    return answer;
+    return create(record, thread, attributes, data);
 }
 
 // ---- Going ----
@@ -166,18 +201,6 @@ static void forget(struct thread *self)
     mpgc_unlock();
 }
 
-static void become(enum thread_state state)
-{
-    mpgc_lock();
-    while (state == RUNNING && mpgc_self->is_suspended) {
-        mpgc_unlock();
-        mpgc_wait_suspended();
-        mpgc_lock();
-    }
-    mpgc_self->state = (int)state;
-    mpgc_unlock();
-}
-
 // Other destructors may still use objects: so this one comes again until the last round.
 static void on_goodbye(void *record)
 {
@@ -188,7 +211,11 @@ static void on_goodbye(void *record)
         (void)mpgc_set_own_key(key, self);
         return;
     }
+    sigset_t old;
+    mpgc_lock();
+    mpgc_block_signals(&old);  // since no stop waits for it any more, nor for a handler of the program
     forget(self);
+    mpgc_unlock();
     mpgc_drop_keys();
 }
 

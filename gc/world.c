@@ -25,7 +25,7 @@
 #include <ucontext.h>
 #include <unistd.h>
 
-enum { SUSPEND = SIGPWR, PATIENCE = 20 };  // seconds
+enum { SUSPEND = SIGPWR, PATIENCE = 4000 };  // short waits, 20 seconds
 
 static _Atomic uint32_t turn;     // odd while the world is stopped
 static _Atomic uint32_t answers;  // of threads that wait in this turn
@@ -81,52 +81,71 @@ static void on_suspend(int number, siginfo_t *info, void *context)
     errno = kept;
 }
 
+// Under it the signal waits too by which the C library cancels threads: else one that is in a call of the system would leave the handler before
+// it has answered, with this signal blocked. But not the one by which it changes users: a suspended thread would hold off others for as long.
 static void install(void)
 {
+    enum { CANCEL = 32 };
     struct sigaction ours = { .sa_sigaction = on_suspend, .sa_flags = SA_SIGINFO | SA_RESTART };
     if (is_installed) return;
     sigfillset(&ours.sa_mask);
+    ours.sa_mask.__val[0] |= (uint64_t)1 << (CANCEL - 1);
     if (SET_HANDLER(SUSPEND, &ours, NULL) != 0) mpgc_stop("the kernel refused what stops threads");
     is_installed = true;
 }
 
-// By the kernel's own call: those of the C library are taken for the program.
+// By the kernel's own call: those of the C library are taken for the program. The thread may have been made with all signals blocked, also
+// that of faults, which the barrier needs.
 void mpgc_make_stoppable(void)
 {
     enum { BYTES = 8 };  // of a set, to the kernel
-    uint64_t only = (uint64_t)1 << (SUSPEND - 1);
+    uint64_t only = (uint64_t)1 << (SUSPEND - 1) | (uint64_t)1 << (SIGSEGV - 1);
     mpgc_lock();
     install();
     mpgc_unlock();
     if (syscall(SYS_rt_sigprocmask, SIG_UNBLOCK, &only, NULL, BYTES) != 0) mpgc_stop("the kernel refused to unblock a signal");
 }
 
-static void await(uint32_t sent)
-{
-    static const struct timespec most = { PATIENCE, 0 };
-    for (uint32_t seen = answers; seen != sent; seen = answers)
-        if (wait_while(&answers, seen, &most) != 0 && errno == ETIMEDOUT) mpgc_stop("a thread didn't stop: does it block SIGPWR?");
-}
-
 // Where it has ended without a word, the kernel knows it no more, and it has nothing.
-static bool is_told(struct thread *one)
+static bool is_told(struct thread *one, int signal)
 {
-    if (syscall(SYS_tgkill, getpid(), one->number, SUSPEND) == 0) return true;
+    if (syscall(SYS_tgkill, getpid(), one->number, signal) == 0) return true;
     if (errno != ESRCH) mpgc_stop("the kernel refused to signal a thread");
     one->state = ENDED;
     return false;
 }
 
+// So many are there that are to stop. By 0 nothing is told.
+static uint32_t tell_others(int signal)
+{
+    uint32_t count = 0;
+    for (struct thread *one = mpgc.threads; one; one = one->next) {
+        if (one == mpgc_self || one->state != RUNNING || one->is_suspended || !is_told(one, signal)) continue;
+        count++;
+        if (signal != 0) mpgc_tell_of_thread(GC_EVENT_THREAD_SUSPENDED, one->id);
+    }
+    return count;
+}
+
+// By short waits: one that was about to end when it was told won't answer, and while the whole process is stopped, for however long, none can.
+static void await(uint32_t sent)
+{
+    static const struct timespec moment = { 0, 5000000 };
+    unsigned late = 0;
+    for (uint32_t seen = answers; seen < sent; seen = answers) {
+        if (wait_while(&answers, seen, &moment) == 0 || errno != ETIMEDOUT) continue;
+        sent = tell_others(0);
+        if (++late == PATIENCE) mpgc_stop("a thread didn't stop: does it block SIGPWR?");
+    }
+}
+
 static void stop_others(void)
 {
-    uint32_t sent = 0;
     double start = mpgc_now();
     stopped_at = start;
     answers = 0;
     turn++;
-    for (struct thread *one = mpgc.threads; one; one = one->next)
-        if (one != mpgc_self && one->state == RUNNING && !one->is_suspended) sent += is_told(one);
-    await(sent);
+    await(tell_others(SUSPEND));
     mpgc_count_stop(mpgc_now() - start);
 }
 
@@ -151,9 +170,25 @@ void mpgc_stop_world(void)
 void mpgc_start_world(void)
 {
     if (--stops > 0 || !mpgc.is_threaded || turn % 2 == 0) return;
+    for (const struct thread *one = mpgc.threads; one; one = one->next)
+        if (one->stop == turn && !one->is_suspended) mpgc_tell_of_thread(GC_EVENT_THREAD_UNSUSPENDED, one->id);
     turn++;
     wake(&turn);
     mpgc_count_standing(mpgc_now() - stopped_at);
+}
+
+void mpgc_stop_to_collect(void)
+{
+    mpgc_tell_event(GC_EVENT_PRE_STOP_WORLD);
+    mpgc_stop_world();
+    mpgc_tell_event(GC_EVENT_POST_STOP_WORLD);
+}
+
+void mpgc_start_after_collecting(void)
+{
+    mpgc_tell_event(GC_EVENT_PRE_START_WORLD);
+    mpgc_start_world();
+    mpgc_tell_event(GC_EVENT_POST_START_WORLD);
 }
 
 SHOWN void GC_stop_world_external(void);

@@ -278,8 +278,9 @@ bool mpheap_free_run(mpheap *heap, uint32_t low, uint32_t *first, uint32_t *page
  *
  *   Between calls, any 64-bit word may be put at any 8-aligned address of an object that is kept at that moment; and if the
  *   object is not pointer-free and the word lies in the heap's range of addresses, the address was told by mpheap_written
- *   first, after the last mpheap_begin, mpheap_retrace, mpheap_finish or mpheap_collect.
+ *   first, after the last mpheap_begin, mpheap_retrace, mpheap_gather, mpheap_finish or mpheap_collect.
  *
+ * (Those are the calls that clean pages; a mpheap_retrace is one beside writers too, whichever page it reads.)
  * (It is owed whether a cycle is marking or none is, since a partial cycle reads what was written between two cycles. Before the
  * first mpheap_begin or mpheap_collect of a heap nothing has to be told, nor after a mpheap_free until the next of these, while
  * none is marking. So where cycles are never partial, an object of one's own that is freed behind each mpheap_finish and
@@ -365,7 +366,8 @@ uint32_t mpheap_join(mpheap_shares *all, mpheap_shares *one);
 
 /* What the helpers of a round did is put together: *heap, which is closed, is open again, and *all empty. Shares whose work wasn't done
  * are done here, however much it is. No entry is left then, and the dirty pages are those that newly marked objects lie on which weren't
- * read: mpheap_mark and mpheap_finish go on from there, or another mpheap_share. BAD_NUMBER: *all is empty, or another place has still
+ * read: mpheap_mark and mpheap_finish go on from there, or another mpheap_share. All others are clean, those too that were told before
+ * mpheap_share: so what is written there by pointers is told anew. BAD_NUMBER: *all is empty, or another place has still
  * shares of the round. Then *heap stays closed, and nothing is lost. */
 uint32_t mpheap_gather(mpheap_shares *all, mpheap *heap);
 
@@ -401,7 +403,7 @@ static inline void mpheap_written_all(mpheap *heap, uint32_t pages) {
 }
 
 /* The pages that need no telling now: those that were told since a call last cleaned one. It begins as MPHEAP_TOLD. mpheap_tells_anew
- * empties it, after an open and after each begin, retrace, finish and collect, at the price of an addition; then mpheap_write tells a
+ * empties it, after an open and after each begin, retrace, gather, finish and collect, at the price of an addition; then mpheap_write tells a
  * page once, at a test of one number for each further write. Pages whose numbers differ by a multiple of MPHEAP_TOLD_PAGES share a
  * place: of these the one that was told last needs none. */
 enum { MPHEAP_TOLD_PAGES = 4096 };

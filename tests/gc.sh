@@ -75,7 +75,7 @@ if command -v clang >"$room/said"; then CC=clang build "$room/clang"; else skip 
 
 # Each function, each place of roots, and what stands round the barrier.
 for test in functions settings macros limits links frees leaks unmapped finalizers kinds roots barrier crowded kernel signals moments process shadow \
-    threads world registering together collector marking stacks; do
+    threads world loading registering stopping together collector marking stacks; do
     "${c[@]}" "$top/tests/gc/$test.c" "-L$room" -lmpgc "-Wl,-rpath,$room" -pthread -o "$room/$test" 2>"$room/said"
     is "$test is built" "" "$(cat "$room/said")"
 done
@@ -113,6 +113,12 @@ for setting in FULL INCREMENTAL GC_COLLECTOR_THREAD; do
 done
 counted "world" "$room/world" "$room/loaded_local.so"
 counted "world, in small steps" env INCREMENTAL=1 "$room/world" "$room/loaded_local.so"
+"${c[@]}" -shared -fPIC "$top/tests/gc/loaded_calling.c" -o "$room/loaded_calling.so" 2>"$room/said"
+is "an object that calls while it is loaded is built" "" "$(cat "$room/said")"
+for setting in GC_MARKERS=4 GC_COLLECTOR_THREAD=1; do
+    counted "loading, $setting" env "$setting" "$room/loading" "$room/loaded_calling.so"
+done
+counted "stopping" "$room/stopping"
 "${c[@]}" -no-pie "$top/tests/gc/process.c" "-L$room" -lmpgc "-Wl,-rpath,$room" -o "$room/fixed" 2>"$room/said"
 counted "process, at fixed addresses" "$room/fixed" "$room/loaded.so"
 for test in barrier kernel signals; do
@@ -140,6 +146,7 @@ done
 ar rcs "$room/checking_core.a" "$room/checking_core.o" "$room/lent.o"
 MPHEAP_ARCHIVE=$room/checking_core.a build "$room/checking"
 counted "collector, over a core that checks what is owed" env "LD_LIBRARY_PATH=$room/checking" "$room/collector" 1
+counted "stopping, over that core" env "LD_LIBRARY_PATH=$room/checking" "$room/stopping"
 for test in functions settings links finalizers kinds registering roots barrier kernel; do
     counted "$test, beside the collector's thread" env GC_COLLECTOR_THREAD=1 "$room/$test"
 done

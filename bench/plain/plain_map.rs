@@ -170,12 +170,13 @@ fn find_large(map: &[Page], state: &Page, page: u32) -> Option<Found> {
     }
 }
 
-/// The object of a block that begins at an address of its page.
+/// The object of a block with this base.
 #[inline]
-pub fn object_from(page: u32, block: &Block, base: u64) -> Option<Found> {
-    let cell = block.cell_of(base)?;
-    let found = block.at(page, cell);
-    (is_set(&block.taken, usize::from(cell)) && found.base == base).then_some(found)
+pub fn object_in_block(page: u32, block: &Block, base: u64) -> Found {
+    match block.cell_of(base) {
+        Some(cell) => Found { base, len: u32::from(block.class.words()), kind: block.kind, page, cell },
+        None => unreachable!(),
+    }
 }
 
 /// The object with this base.
@@ -183,10 +184,7 @@ pub fn object_from(page: u32, block: &Block, base: u64) -> Option<Found> {
 pub fn object_at(map: &[Page], base: u64) -> Found {
     let page = ((base - START) / 4_096) as u32;
     match &map[page as usize] {
-        Page::Cut(block) => match block.cell_of(base) {
-            Some(cell) => Found { base, len: u32::from(block.class.words()), kind: block.kind, page, cell },
-            None => unreachable!(),
-        },
+        Page::Cut(block) => object_in_block(page, block, base),
         Page::Head(pages, kind) => large(page, *pages, *kind),
         _ => unreachable!(),
     }

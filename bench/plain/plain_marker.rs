@@ -2,7 +2,7 @@
 // A program uses a part of it.
 #![allow(dead_code)]
 
-use crate::plain_map::{Block, Found, Kind, Page, START, find, next_on_page, object_at, object_from};
+use crate::plain_map::{Block, Found, Kind, Page, START, find, next_on_page, object_at, object_in_block};
 use crate::plain_row::{clear, is_set, next, set};
 
 const ENTRIES: usize = 256;
@@ -366,9 +366,8 @@ impl Marker {
 
     #[inline]
     fn reread_at(&mut self, map: &[Page], heap_bytes: u64, memory: &[u64], page: u32, block: &Block, granule: usize) {
-        if let Some(found) = object_from(page, block, START + 16 * granule as u64) {
-            self.mark_words(map, heap_bytes, memory, found.base, 0, u64::from(found.len));
-        }
+        let found = object_in_block(page, block, START + 16 * granule as u64);
+        self.mark_words(map, heap_bytes, memory, found.base, 0, u64::from(found.len));
     }
 
     fn reread_cells(&mut self, map: &[Page], heap_bytes: u64, memory: &[u64], page: u32, block: &Block) {

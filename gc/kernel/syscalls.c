@@ -26,19 +26,18 @@ static void will_write_parts(const struct iovec *parts, int count)
     for (int k = 0; k < count; k++) mpgc_will_write(parts[k].iov_base, parts[k].iov_len);
 }
 
-SHOWN ssize_t readv(int file, const struct iovec *parts, int count)
-{
-    NEXT(ssize_t, readv, (int, const struct iovec *, int));
-    will_write_parts(parts, count);
-    SAYS(next(file, parts, count));
-}
-
-SHOWN ssize_t preadv(int file, const struct iovec *parts, int count, off_t from)
-{
-    NEXT(ssize_t, preadv, (int, const struct iovec *, int, off_t));
-    will_write_parts(parts, count);
-    SAYS(next(file, parts, count, from));
-}
+#define READS_PARTS(name, words, values) \
+    SHOWN ssize_t name words \
+    { \
+        NEXT(ssize_t, name, words); \
+        will_write_parts(parts, count); \
+        SAYS(next values); \
+    }
+READS_PARTS(readv, (int file, const struct iovec *parts, int count), (file, parts, count))
+READS_PARTS(preadv, (int file, const struct iovec *parts, int count, off_t from), (file, parts, count, from))
+READS_PARTS(preadv64, (int file, const struct iovec *parts, int count, off64_t from), (file, parts, count, from))
+READS_PARTS(preadv2, (int file, const struct iovec *parts, int count, off_t from, int flags), (file, parts, count, from, flags))
+READS_PARTS(preadv64v2, (int file, const struct iovec *parts, int count, off64_t from, int flags), (file, parts, count, from, flags))
 
 static size_t product(size_t size, size_t count) { return size != 0 && count > SIZE_MAX / size ? SIZE_MAX : size * count; }
 

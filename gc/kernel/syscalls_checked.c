@@ -21,6 +21,15 @@ CHECKED(ssize_t, __recv_chk, (int file, void *into, size_t bytes, size_t room, i
 CHECKED(int, __poll_chk, (struct pollfd *files, nfds_t count, int timeout, size_t room), (files, count, timeout, room), files,
         count * sizeof *files)
 
+SHOWN int __ppoll_chk(struct pollfd *files, nfds_t count, const struct timespec *timeout, const sigset_t *blocked, size_t room);
+SHOWN int __ppoll_chk(struct pollfd *files, nfds_t count, const struct timespec *timeout, const sigset_t *blocked, size_t room)
+{
+    NEXT(int, __ppoll_chk, (struct pollfd *, nfds_t, const struct timespec *, const sigset_t *, size_t));
+    mpgc_will_write(files, count * sizeof *files);
+    sigset_t mask;
+    SAYS(next(files, count, timeout, mpgc_without_faults(blocked, &mask), room));
+}
+
 // No more than the room is written, or the program is stopped.
 CHECKED(size_t, __fread_chk, (void *into, size_t room, size_t size, size_t count, FILE *file), (into, room, size, count, file), into, room)
 CHECKED(size_t, __fread_unlocked_chk, (void *into, size_t room, size_t size, size_t count, FILE *file), (into, room, size, count, file), into,

@@ -150,13 +150,16 @@ SHOWN int ppoll(struct pollfd *files, nfds_t count, const struct timespec *timeo
     SAYS(next(files, count, timeout, mpgc_without_faults(blocked, &mask)));
 }
 
-SHOWN int epoll_pwait(int file, struct epoll_event *events, int most, int timeout, const sigset_t *blocked)
-{
-    NEXT(int, epoll_pwait, (int, struct epoll_event *, int, int, const sigset_t *));
-    if (most > 0) mpgc_will_write(events, (size_t)most * sizeof *events);
-    sigset_t mask;
-    SAYS(next(file, events, most, timeout, mpgc_without_faults(blocked, &mask)));
-}
+#define WAITS_FOR_EVENTS(name, time) \
+    SHOWN int name(int file, struct epoll_event *events, int most, time timeout, const sigset_t *blocked) \
+    { \
+        NEXT(int, name, (int, struct epoll_event *, int, time, const sigset_t *)); \
+        if (most > 0) mpgc_will_write(events, (size_t)most * sizeof *events); \
+        sigset_t mask; \
+        SAYS(next(file, events, most, timeout, mpgc_without_faults(blocked, &mask))); \
+    }
+WAITS_FOR_EVENTS(epoll_pwait, int)
+WAITS_FOR_EVENTS(epoll_pwait2, const struct timespec *)
 
 // Times, and what the system tells of itself.
 OPENS(int, clock_gettime, (clockid_t clock, struct timespec *into), (clock, into), into, sizeof *into)

@@ -47,11 +47,18 @@ HIDDEN void mpgc_will_be_threaded(void);
 // environment.c
 HIDDEN void mpgc_read_environment(void);
 
+// kinds.c
+HIDDEN void *mpgc_malloc_kind(size_t bytes, int kind);
+
 // told.c
+HIDDEN void mpgc_tell_event(GC_EventType event);
 HIDDEN void mpgc_tell_start(void);
 HIDDEN bool mpgc_holds_threads_back(void);
 HIDDEN void mpgc_tell_end(void);
 HIDDEN void *mpgc_out_of_memory(size_t bytes);
+
+// of_threads.c. The thread stops, or goes on.
+HIDDEN void mpgc_tell_of_thread(GC_EventType event, pthread_t thread);
 
 // finalizers.c and toggles.c, at a cycle's end, while no other thread runs; a request; and what is freed
 HIDDEN bool mpgc_has_to_find(void);

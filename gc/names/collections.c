@@ -1,5 +1,8 @@
 // What is due is done, and what the program asks for: collections that it may break off, and steps. Each is a call that anyone may make.
 #include "paced.h"
+#include <sys/syscall.h>
+#include <time.h>
+#include <unistd.h>
 
 // The cycle that marks ends, if there is one, or the program breaks it off: then it stands, and the next collection goes on with it.
 static bool end_unless(GC_stop_func stop)
@@ -31,12 +34,34 @@ static bool collect_unless(GC_stop_func stop)
     return end_unless(stop);
 }
 
+// Who asks for one behind the other has the lock again before those have it that wait for it, and stops the others again before they have gone
+// on: so they are let run first, for as long as the last one took. The lock is held, and given back meanwhile.
+static double ended_at, took;
+
+static void let_others_run(void)
+{
+    enum { MOST = 1000 };  // microseconds
+    double rest = ended_at + took - mpgc_now();
+    struct timespec moment = { 0, (long)(rest < MOST ? rest : MOST) * 1000 };
+    if (rest <= 0 || mpgc_is_last_thread()) return;
+    GC_alloc_unlock();
+    if (!mpgc_has_lock()) {
+        mpgc_give_way();
+        syscall(SYS_nanosleep, &moment, NULL);
+    }
+    GC_alloc_lock();
+}
+
 // A collection that the program may break off, by this function, if there is one.
 bool mpgc_collect_unless(GC_stop_func stop)
 {
     GC_init();
     GC_alloc_lock();
+    let_others_run();
+    double start = mpgc_now();
     bool answer = collect_unless(stop);
+    ended_at = mpgc_now();
+    took = ended_at - start;
     GC_alloc_unlock();
     mpgc_tell_ready();
     return answer;

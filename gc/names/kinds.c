@@ -19,7 +19,8 @@ static void *make_described(size_t elements, size_t bytes, GC_word descriptor, i
     void *object = GC_malloc_atomic(all);
     if (!GC_is_heap_ptr(object)) return object;
     memset(object, 0, GC_size(object));
-    if (!is_length || descriptor > 0) mpgc_describe(object, bytes, all, descriptor, kind);
+    bool is_read = all > 0 && (!is_length || descriptor > 0);
+    if (is_read) mpgc_describe(object, bytes, all, descriptor, kind);
     return object;
 }
 
@@ -27,10 +28,10 @@ static void *of_own_kind(size_t bytes, int kind)
 {
     if (kind < FIRST_KIND || (unsigned)kind >= kind_count) mpgc_stop("a request of a kind that nobody made");
     size_t all = (bytes + (size_t)GC_get_all_interior_pointers() + WORD - 1) & ~(WORD - 1);
-    return make_described(1, bytes, kinds[kind].descriptor + (kinds[kind].adds_size ? all : 0), kind);
+    return make_described(1, bytes == 0 ? 1 : bytes, kinds[kind].descriptor + (kinds[kind].adds_size ? all : 0), kind);
 }
 
-static void *of_kind(size_t bytes, int kind)
+void *mpgc_malloc_kind(size_t bytes, int kind)
 {
     switch (kind) {
     case ATOMIC: return GC_malloc_atomic(bytes);
@@ -43,7 +44,7 @@ static void *of_kind(size_t bytes, int kind)
 
 #define OF_KIND(name, words, values) \
     SHOWN void *name words; \
-    void *name words { return of_kind values; }
+    void *name words { return mpgc_malloc_kind values; }
 OF_KIND(GC_malloc_kind, (size_t bytes, int kind), (bytes, kind))
 OF_KIND(GC_malloc_kind_global, (size_t bytes, int kind), (bytes, kind))
 OF_KIND(GC_generic_malloc, (size_t bytes, int kind), (bytes, kind))
@@ -54,17 +55,19 @@ OF_KIND(GC_debug_generic_or_special_malloc, (size_t bytes, int kind, ...), (byte
 OF_KIND(GC_generic_malloc_uncollectable, (size_t bytes, int kind),
         (bytes, kind == ATOMIC || kind == ATOMIC_UNCOLLECTABLE ? ATOMIC_UNCOLLECTABLE : UNCOLLECTABLE))
 
-// A list of objects, linked by their first words. The bytes are those of a whole cell, the one past the end among them.
+// A list of objects, linked by their first words. The bytes are those of a whole cell, the one past the end among them. A request may collect,
+// and the words of some kinds aren't read: so they are linked when all are there.
 SHOWN void GC_generic_malloc_many(size_t bytes, int kind, void **list);
 void GC_generic_malloc_many(size_t bytes, int kind, void **list)
 {
     enum { MANY = 32 };
+    void **made[MANY];
+    int count = 0;
+    while (count < MANY && (made[count] = mpgc_malloc_kind(bytes - (GC_get_all_interior_pointers() ? 1 : 0), kind))) count++;
     *list = NULL;
-    for (int k = 0; k < MANY; k++) {
-        void **made = of_kind(bytes - (GC_get_all_interior_pointers() ? 1 : 0), kind);
-        if (!made) return;
-        *made = *list;
-        *list = made;
+    for (int k = 0; k < count; k++) {
+        *made[k] = *list;
+        *list = made[k];
     }
 }
 

@@ -1,4 +1,5 @@
 // What a program asks of threads that needs no more than gc/threads.c answers.
+#include "locked.h"
 #include "paced.h"
 #include <dlfcn.h>
 #include <pthread.h>
@@ -53,8 +54,9 @@ void GC_set_suspend_signal(int number) { (void)number; }
 SHOWN void GC_set_thr_restart_signal(int number);
 void GC_set_thr_restart_signal(int number) { (void)number; }
 
-static void *tell_of_thread;
-SHOWN void GC_set_on_thread_event(void *tell);
-void GC_set_on_thread_event(void *tell) { tell_of_thread = tell; }
-SHOWN void *GC_get_on_thread_event(void);
-void *GC_get_on_thread_event(void) { return tell_of_thread; }
+static GC_on_thread_event_proc tell_of_thread;
+LOCKED_SETTING(GC_on_thread_event_proc, tell_of_thread, GC_set_on_thread_event, GC_get_on_thread_event)
+void mpgc_tell_of_thread(GC_EventType event, pthread_t thread)
+{
+    if (tell_of_thread) tell_of_thread(event, (void *)thread);
+}

@@ -7,12 +7,12 @@ int GC_dont_expand;
 int GC_dont_precollect;
 int GC_find_leak;
 int GC_finalize_on_demand;
-int GC_java_finalization;
+int GC_java_finalization = 1;
 int GC_use_entire_heap;
 int GC_full_freq = 19;
 GC_word GC_free_space_divisor = 3;
 GC_word GC_max_retries;
-unsigned long GC_time_limit = 50;
+unsigned long GC_time_limit = GC_TIME_UNLIMITED;
 GC_finalizer_notifier_proc GC_finalizer_notifier;
 
 static GC_await_finalize_proc tell_finalize;

@@ -1,6 +1,7 @@
 // What the program is told, and by which functions of its own.
 #include "locked.h"
 #include "paced.h"
+#include <errno.h>
 #include <stdio.h>
 #include <string.h>
 #include <unistd.h>
@@ -39,10 +40,15 @@ static GC_stop_func stop_by_default = never;
 static GC_on_collection_event_proc tell_event;
 static GC_start_callback_proc tell_start;
 
-static void tell_events(const GC_EventType *events, size_t count)
+void mpgc_tell_event(GC_EventType event)
 {
     GC_on_collection_event_proc tell = tell_event;
-    for (size_t k = 0; tell && k < count; k++) tell(events[k]);
+    if (tell) tell(event);
+}
+
+static void tell_events(const GC_EventType *events, size_t count)
+{
+    for (size_t k = 0; k < count; k++) mpgc_tell_event(events[k]);
 }
 
 void mpgc_tell_start(void)
@@ -66,11 +72,13 @@ void mpgc_tell_end(void)
     tell_events(last, 4);
 }
 
+// The program's function may jump out of this: so it isn't called under the lock, by a registration, which asks once more without.
 void *mpgc_out_of_memory(size_t bytes)
 {
     GC_oom_func answer = GC_get_oom_fn();
     GC_get_warn_proc()("GC Warning: Out of Memory! Heap size: %lu MiB. Returning NULL!\n", GC_get_heap_size() >> 20);
-    return answer ? answer(bytes) : NULL;
+    errno = ENOMEM;
+    return answer && !mpgc_has_lock() ? answer(bytes) : NULL;
 }
 
 // The function that may break off a collection, if there is one.

@@ -211,6 +211,7 @@ typedef enum {
     GC_EVENT_THREAD_SUSPENDED, GC_EVENT_THREAD_UNSUSPENDED
 } GC_EventType;
 typedef void (*GC_on_collection_event_proc)(GC_EventType event);
+typedef void (*GC_on_thread_event_proc)(GC_EventType event, void *thread);
 typedef void (*GC_start_callback_proc)(void);
 GC_API void GC_set_oom_fn(GC_oom_func answer);
 GC_API GC_oom_func GC_get_oom_fn(void);
@@ -224,6 +225,8 @@ GC_API void GC_set_on_heap_resize(GC_on_heap_resize_proc tell);
 GC_API GC_on_heap_resize_proc GC_get_on_heap_resize(void);
 GC_API void GC_set_on_collection_event(GC_on_collection_event_proc tell);
 GC_API GC_on_collection_event_proc GC_get_on_collection_event(void);
+GC_API void GC_set_on_thread_event(GC_on_thread_event_proc tell);
+GC_API GC_on_thread_event_proc GC_get_on_thread_event(void);
 GC_API void GC_set_start_callback(GC_start_callback_proc tell);
 GC_API GC_start_callback_proc GC_get_start_callback(void);
 GC_API void GC_set_log_fd(int file);

@@ -1,6 +1,8 @@
 /* What is freed: a small object comes back zeroed, in each size and kind, and once; nothing that was known of it is known of the next; and a
  * second free is noticed, wherever the object is by then. With handlers that request and free in the middle of it, beside collections. */
 #define _POSIX_C_SOURCE 200809L
+#define GC_THREADS
+#include <pthread.h>
 #include <signal.h>
 #include <stdint.h>
 #include <string.h>
@@ -9,7 +11,7 @@
 #include "check.h"
 #include "watch.h"
 
-enum { SIZES = 255, RUN = 64, MANY = 5 * RUN };
+enum { SIZES = 2047, RUN = 64, MANY = 5 * RUN };
 
 static int is_zero(const unsigned char *object, size_t bytes)
 {
@@ -20,20 +22,21 @@ static int is_zero(const unsigned char *object, size_t bytes)
 
 static void *made(size_t bytes, int is_atomic) { return is_atomic ? GC_malloc_atomic(bytes) : GC_malloc(bytes); }
 
-/* The same object comes back within a run's length, with nothing in it. (Of more than four granules it may come back to a request of another
- * number of granules, which has such objects too.) */
+/* The same object comes back within a run's length, with nothing in it; perhaps behind a collection, and with none of the run left. */
+static int collects;
 static void comes_back(size_t bytes, int is_atomic)
 {
     void *old = made(bytes, is_atomic), *again = NULL;
     int zeros = 1;
     memset(old, 0x5A, bytes);
+    if (collects) GC_gcollect();
+    for (int k = 0; collects && k < RUN; k++) (void)made(bytes, is_atomic);
     GC_free(old);
     for (int k = 0; k < 2 * RUN && again != old; k++) {
         again = made(bytes, is_atomic);
         zeros &= is_zero(again, bytes);
     }
-    CHECK(again == old || bytes >= 64);
-    CHECK(zeros);
+    CHECK(again == old && zeros);
 }
 
 static void each_size_comes_back(void)
@@ -42,40 +45,125 @@ static void each_size_comes_back(void)
         for (size_t bytes = 8; bytes <= SIZES; bytes++) comes_back(bytes, is_atomic);
 }
 
+static void old_ones_come_back(void)
+{
+    collects = 1;
+    for (size_t bytes = 8; bytes <= SIZES; bytes += bytes / 2) comes_back(bytes, bytes % 3 == 0);
+    collects = 0;
+}
+
+/* Each object has room for what was asked for, beside others of its size and of those near it. */
+static void none_overlap(void)
+{
+    static unsigned char *seen[SIZES + 1];
+    int wrong = 0;
+    for (size_t bytes = 1; bytes <= SIZES; bytes++) memset(seen[bytes] = GC_malloc(bytes), (int)bytes, bytes);
+    for (size_t bytes = 1; bytes <= SIZES; bytes++) {
+        for (size_t k = 0; k < bytes; k++) wrong += seen[bytes][k] != (unsigned char)bytes;
+        GC_free(seen[bytes]);
+    }
+    CHECK(wrong == 0);
+}
+
 /* So many at once are more than a run takes: each comes back at most once. */
-static void none_comes_twice(void)
+static void none_comes_twice(size_t bytes)
 {
     static char *seen[MANY], *again[MANY];
     int twice = 0;
-    for (int k = 0; k < MANY; k++) memset(seen[k] = GC_malloc(48), k, 48);
+    for (int k = 0; k < MANY; k++) memset(seen[k] = GC_malloc(bytes), k, bytes);
     for (int k = 0; k < MANY; k++) GC_free(seen[k]);
-    for (int k = 0; k < MANY; k++) memset(again[k] = GC_malloc(48), 1, 48);
+    for (int k = 0; k < MANY; k++) memset(again[k] = GC_malloc(bytes), 1, bytes);
     for (int k = 0; k < MANY; k++)
         for (int other = 0; other < k; other++) twice += again[k] == again[other];
     CHECK(twice == 0);
 }
 
-/* An object freed `before`, with a collection between or none, and then once more. */
+/* Of what is freed a thread holds some pages of each size and kind back at most: the others have nothing, once the cells between are swept. */
+static void the_rest_is_free(void)
+{
+    enum { HELD = 4, PAGE = 4096, LARGE = 2000 };
+    static char *all[MANY];
+    size_t before = GC_get_memory_use();
+    for (int k = 0; k < MANY; k++) memset(all[k] = GC_malloc(LARGE), 1, LARGE);
+    CHECK(GC_get_memory_use() >= before + MANY / 2 * PAGE - HELD * PAGE);
+    for (int k = 0; k < MANY; k++) GC_free(all[k]);
+    CHECK(GC_get_memory_use() <= before + 2 * HELD * PAGE);
+}
+
+/* An object freed behind so many, with a collection between or none, and then once more. What the run had goes first, since the core frees what
+ * was given to a run before the last collection. */
 static char *old;
-static int more, collects;
+static int more;
+static size_t each;
 static void free_again(void)
 {
     static char *others[MANY];
-    for (int k = 0; k < more; k++) others[k] = memset(GC_malloc(40), 1, 40);
-    old = memset(GC_malloc(40), 1, 40);
+    for (int k = 0; k < RUN; k++) (void)GC_malloc(each);
+    for (int k = 0; k < more; k++) others[k] = memset(GC_malloc(each), 1, each);
+    old = memset(GC_malloc(each), 1, each);
     for (int k = 0; k < more; k++) GC_free(others[k]);
     GC_free(old);
     if (collects) GC_gcollect();
     GC_free(old);
 }
-static void second_frees(void)
+static void second_frees(size_t bytes)
 {
-    static const int before[] = { 0, 1, RUN / 2, MANY - 1 };
+    static const int before[] = { 0, 1, 5, RUN / 2, MANY - 1 };
+    each = bytes;
     for (collects = 0; collects < 2; collects++)
         for (size_t k = 0; k < sizeof before / sizeof *before; k++) {
             more = before[k];
             CHECK(stops_with(free_again, "GC_free of what"));
         }
+}
+
+/* What a thread has freed that has ended since. */
+static void *made_and_freed[RUN];
+static void *make_and_free(void *unused)
+{
+    for (int k = 0; k < RUN; k++) made_and_freed[k] = memset(GC_malloc(each), 1, each);
+    for (int k = 0; k < RUN; k++) GC_free(made_and_freed[k]);
+    return unused;
+}
+static void free_behind_a_thread(void)
+{
+    pthread_t thread;
+    (void)GC_malloc(each);
+    if (pthread_create(&thread, NULL, make_and_free, NULL) != 0 || pthread_join(thread, NULL) != 0) return;
+    GC_free(made_and_freed[0]);
+}
+static void frees_behind_a_thread(size_t bytes)
+{
+    each = bytes;
+    CHECK(stops_with(free_behind_a_thread, "GC_free of what isn't the beginning of an object"));
+}
+
+/* What isn't where an object begins. */
+static void free_inside(void)
+{
+    old = memset(GC_malloc(each), 1, each);
+    if (collects) GC_gcollect();
+    GC_free(old + 16);
+}
+static void frees_inside(size_t bytes)
+{
+    each = bytes;
+    for (collects = 0; collects < 2; collects++) CHECK(stops_with(free_inside, "GC_free of what isn't the beginning of an object"));
+}
+
+/* The thread has objects of a size that it wasn't given yet: of these, one that lies beside one which it was given. */
+static void free_beside(void)
+{
+    for (int k = 0; k < RUN; k++) {
+        char *next = (char *)memset(GC_malloc(each), 1, each) + GC_size(old);
+        if (GC_base(next) == next && *next == 0) GC_free(next);
+    }
+}
+static void frees_of_the_next(size_t bytes)
+{
+    each = bytes;
+    old = GC_malloc(bytes);
+    CHECK(stops_with(free_beside, "GC_free of what was freed before"));
 }
 
 /* What the program frees it was told of before is known no more. */
@@ -188,13 +276,25 @@ int main(void)
     GC_INIT();
     GC_free(memset(GC_malloc(16), 1, 16));
     GC_disable();
+    the_rest_is_free();
     each_size_comes_back();
-    none_comes_twice();
+    none_overlap();
+    none_comes_twice(48);
+    none_comes_twice(600);
     figures_go_on();
     GC_enable();
+    old_ones_come_back();
     beside_a_handler();
     what_was_known();
-    second_frees();
+    second_frees(40);
+    second_frees(2000);
+    frees_behind_a_thread(40);
+    frees_behind_a_thread(600);
+    frees_inside(40);
+    frees_inside(2000);
+    frees_of_the_next(40);
+    frees_of_the_next(400);
+    frees_of_the_next(900);
     kill(watcher, SIGKILL);
     return check_ends();
 }

@@ -101,7 +101,8 @@ extern ssize_t __read_chk(int, void *, size_t, size_t), __pread_chk(int, void *,
     __readlinkat_chk(int, const char *, char *, size_t, size_t);
 extern size_t __fread_chk(void *, size_t, size_t, size_t, FILE *), __fread_unlocked_chk(void *, size_t, size_t, size_t, FILE *);
 extern char *__getcwd_chk(char *, size_t, size_t);
-extern int __poll_chk(struct pollfd *, nfds_t, int, size_t);
+extern int __poll_chk(struct pollfd *, nfds_t, int, size_t),
+    __ppoll_chk(struct pollfd *, nfds_t, const struct timespec *, const sigset_t *, size_t);
 
 static void checked(int from, int to)
 {
@@ -123,6 +124,9 @@ static void checked(int from, int to)
     wait->fd = from;
     wait->events = POLLOUT;
     CHECK(__poll_chk(wait, 1, 1000, sizeof *wait) == 1 && (wait->revents & POLLOUT));
+    struct pollfd *other = place(97);
+    *other = (struct pollfd){ .fd = from, .events = POLLOUT };
+    CHECK(__ppoll_chk(other, 1, NULL, NULL, sizeof *other) == 1 && (other->revents & POLLOUT));
 }
 
 static void of_sockets(int from, int to)
@@ -146,6 +150,7 @@ static void of_sockets(int from, int to)
     int queue = epoll_create1(0);
     CHECK(epoll_ctl(queue, EPOLL_CTL_ADD, to, &wanted) == 0 && epoll_wait(queue, seen, 4, 1000) == 1 && seen->data.fd == to);
     CHECK(epoll_pwait(queue, place(285), 4, 1000, NULL) == 1);
+    CHECK(epoll_pwait2(queue, place(288), 4, NULL, NULL) == 1);
     int *ends = place(345), *option = place(350);
     socklen_t *length = place(355);
     *length = sizeof *option;
@@ -321,6 +326,14 @@ static void system_calls(void)
     int file = open("/proc/self/exe", O_RDONLY);
     CHECK(pread(file, ordinary[130], 100, 1) == 100 && memcmp(ordinary[130], "ELF", 3) == 0);
     CHECK(pread64(file, ordinary[140], 100, 1) == 100 && memcmp(ordinary[140], "ELF", 3) == 0);
+    struct iovec parts[2] = { { ordinary[143], 50 }, { ordinary[146], 50 } };
+    CHECK(preadv(file, parts, 2, 1) == 100 && memcmp(ordinary[143], "ELF", 3) == 0);
+    parts[0].iov_base = ordinary[148];
+    CHECK(preadv64(file, parts, 1, 1) == 50 && memcmp(ordinary[148], "ELF", 3) == 0);
+    parts[0].iov_base = ordinary[152];
+    CHECK(preadv2(file, parts, 1, 1, 0) == 50 && memcmp(ordinary[152], "ELF", 3) == 0);
+    parts[0].iov_base = ordinary[156];
+    CHECK(preadv64v2(file, parts, 1, 1, 0) == 50 && memcmp(ordinary[156], "ELF", 3) == 0);
     close(file);
     checked(ends[0], ends[1]);
     of_files();

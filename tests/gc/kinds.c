@@ -221,6 +221,15 @@ static NOINLINE void kinds(void)
     for (int k = 0; k < MANY; k++) is_right &= of_kind[k][1][0] == 1000 + (uint64_t)k;
     CHECK(is_right && count_gone(0, MANY) == 0 && marked >= MANY);
     CHECK(count_gone(MANY, 2 * MANY) >= MANY - 3);
+    void *volatile nothing[3] = { GC_generic_malloc(0, (int)kind), GC_calloc_explicitly_typed(3, 0, GC_make_descriptor(&(GC_word){ 5 }, 3)),
+                                  GC_calloc_explicitly_typed(0, 24, GC_make_descriptor(&(GC_word){ 5 }, 3)) };
+    GC_gcollect();
+    CHECK(GC_base(nothing[0]) && GC_base(nothing[1]) && GC_base(nothing[2]));
+    for (int k = 0; k < MANY; k++) of_kind[k] = GC_realloc(of_kind[k], 100 * sizeof **of_kind);
+    CHECK(GC_get_kind_and_size(of_kind[0], &bytes) == (int)kind && bytes >= 800);
+    collect();
+    for (int k = 0; k < MANY; k++) is_right &= of_kind[k][1][0] == 1000 + (uint64_t)k;
+    CHECK(is_right && count_gone(0, MANY) == 0);
     for (int k = 0; k < MANY; k += 2) GC_free(of_kind[k]);
     memset(of_kind, 0, sizeof of_kind);
     collect();
@@ -385,6 +394,28 @@ static NOINLINE void walks(void)
     CHECK(GC_get_kind_and_size(GC_malloc(10), NULL) == 1 && GC_get_kind_and_size(GC_malloc_atomic(10), NULL) == 0);
 }
 
+/* Lists of pointer-free objects, which nothing but their place in a list names while they are made: each is given out once. */
+static NOINLINE void lists_of_a_kind(void)
+{
+    enum { LISTS = 200, LONGEST = 300 };
+    static uint64_t *held[LISTS][LONGEST];
+    GC_word divisor = GC_get_free_space_divisor();
+    int others = 0;
+    GC_set_free_space_divisor(300);
+    for (uint64_t n = 0; n < 20 * LISTS; n++) {
+        uint64_t **all = held[n % LISTS], *list = NULL;
+        for (size_t k = 0; k < LONGEST && all[k]; k++) others += all[k][1] != n - LISTS;
+        memset(held[n % LISTS], 0, sizeof held[n % LISTS]);
+        GC_malloc_atomic(16);
+        GC_generic_malloc_many(2 * sizeof *list, 0, (void **)&list);
+        for (size_t k = 0; k < LONGEST && list; list = (uint64_t *)(uintptr_t)list[0]) all[k++] = list;
+        for (size_t k = 0; k < LONGEST && all[k]; k++) all[k][1] = n;
+    }
+    CHECK(others == 0);
+    memset(held, 0, sizeof held);
+    GC_set_free_space_divisor(divisor);
+}
+
 int main(void)
 {
     GC_INIT();
@@ -395,6 +426,7 @@ int main(void)
     chains();
     moved();
     kinds();
+    lists_of_a_kind();
     per_object();
     toggles();
     disclaims();

@@ -4,6 +4,8 @@
 #define _GNU_SOURCE
 #define GC_OOM_FUNC_RETURNS_ALIAS
 #include <errno.h>
+#include <pthread.h>
+#include <setjmp.h>
 #include <stdbool.h>
 #include <stdint.h>
 #include <sys/resource.h>
@@ -47,6 +49,46 @@ static int counts_what_was_given(void)
     for (int k = 0; k < 10; k++)
         if (GC_malloc(huge) || GC_realloc(old, huge) || GC_memalign(4096, huge) || GC_strndup(old, 3) == NULL) return 1;
     return strcmp(old, "still here") == 0 && GC_get_total_bytes() - total < 1000 ? 0 : 2;
+}
+
+/* Where memory runs out in a registration, the program's function may jump out of it: the lock isn't held by anyone then. */
+static jmp_buf out;
+static void *jump_out(size_t bytes)
+{
+    (void)bytes;
+    longjmp(out, 1);
+}
+static void finalize(void *object, void *data)
+{
+    (void)object;
+    (void)data;
+}
+static void *make_one(void *data)
+{
+    return GC_malloc_atomic(16) ? data : NULL;
+}
+static int may_jump_out_of_a_registration(void)
+{
+    enum { MOST = 60000 };
+    static void *all[MOST];
+    static int made;
+    void *answer = NULL;
+    pthread_t thread;
+    alarm(60);
+    GC_set_max_heap_size(2 * MEGABYTE);
+    GC_set_warn_proc(GC_ignore_warn_proc);
+    GC_allow_register_threads();
+    errno = 0;
+    while (made < MOST && (all[made] = GC_malloc(64))) made++;
+    if (made == MOST || errno != ENOMEM) return 1;
+    GC_set_oom_fn(jump_out);
+    if (setjmp(out) == 0) {
+        for (int k = 0; k < made; k++) GC_register_finalizer(all[k], finalize, NULL, NULL, NULL);
+        return 2;
+    }
+    memset(all, 0, sizeof all);
+    if (pthread_create(&thread, NULL, make_one, &answer) != 0 || pthread_join(thread, &answer) != 0) return 3;
+    return answer == &answer ? 0 : 4;
 }
 
 /* What no heap has: the largest numbers, and products of them that wrap to small ones. */
@@ -296,6 +338,7 @@ int main(void)
     CHECK(status_of(hands_on_a_reserve) == 0);
     CHECK(status_of(counts_what_was_given) == 0);
     CHECK(status_of(refuses_what_cannot_be) == 0);
+    CHECK(status_of(may_jump_out_of_a_registration) == 0);
     CHECK(status_of(long_texts_leave_errno) == 0);
     CHECK(status_of(warns_each_time) == 0);
     CHECK(status_of(large_requests) == 0);

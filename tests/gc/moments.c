@@ -42,10 +42,11 @@ static void on_stop(const char *sentence) { _exit(strstr(sentence, "a call was m
 
 static unsigned long moments, went_on, were_stopped, in_a_row, passed_by;
 
-/* In the middle of a call of the heap each handler is stopped: behind so many moments of it only some are tried, until one goes on. */
+/* In the middle of a call of the heap each handler is stopped: behind so many moments of it only some are tried, others in each run of this
+ * program, until one goes on. */
+enum { ENOUGH = 50, EACH = 16 };
 static int is_passed_by(void)
 {
-    enum { ENOUGH = 50, EACH = 16 };
     if (in_a_row < ENOUGH || ++passed_by % EACH == 0) return 0;
     return 1;
 }
@@ -71,11 +72,19 @@ static void on_trap(int number, siginfo_t *info, void *context)
     in_a_row = is_stopped ? in_a_row + 1 : 0;
 }
 
+/* What calls left on the stack below this one is no root. */
+__attribute__((noinline)) static void wipe(void)
+{
+    volatile char below[1 << 14];
+    for (size_t k = 0; k < sizeof below; k++) below[k] = 0;
+}
+
 /* What a handler made to stay does so, though nothing names it, and others are made. */
 static void hide_and_collect(void)
 {
     for (int k = 0; k < turns; k++) made[k] = (uint64_t *)GC_HIDE_POINTER(made[k]);
     old = NULL;
+    wipe();
     GC_gcollect();
     for (int k = 0; k < 3000; k++) ask()[0] = 1;
     for (int k = 0; k < turns; k++) made[k] = (uint64_t *)GC_REVEAL_POINTER(made[k]);
@@ -159,6 +168,7 @@ static void others(void)
 int main(void)
 {
     struct sigaction action = { .sa_sigaction = on_trap, .sa_flags = SA_SIGINFO };
+    passed_by = (unsigned long)getpid() % EACH;
     GC_INIT();
     GC_set_abort_func(on_stop);
     GC_expand_hp(1 << 22);

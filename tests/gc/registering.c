@@ -198,6 +198,51 @@ static void finalizers(void)
     if (finalized < 11900) printf("  %d finalized\n", finalized);
 }
 
+/* The program is told of each stop, and of each thread that stops. */
+static pthread_t watched;
+static int suspended, went_on, is_in_order = 1, stops, starts;
+static void note_thread(GC_EventType event, void *thread)
+{
+    if (!pthread_equal((pthread_t)thread, watched)) return;
+    suspended += event == GC_EVENT_THREAD_SUSPENDED;
+    went_on += event == GC_EVENT_THREAD_UNSUSPENDED;
+    is_in_order &= suspended - went_on == (event == GC_EVENT_THREAD_SUSPENDED);
+}
+static void note_stop(GC_EventType event)
+{
+    stops += event == GC_EVENT_POST_STOP_WORLD;
+    starts += event == GC_EVENT_PRE_START_WORLD;
+    if (event == GC_EVENT_PRE_STOP_WORLD || event == GC_EVENT_POST_START_WORLD) is_in_order &= stops == starts && suspended == went_on;
+    if (event == GC_EVENT_POST_STOP_WORLD || event == GC_EVENT_PRE_START_WORLD) is_in_order &= suspended == went_on + 1;
+}
+static void *wait_in_between(void *data)
+{
+    struct GC_stack_base base;
+    GC_get_stack_base(&base);
+    GC_register_my_thread(&base);
+    watched = pthread_self();
+    sem_post(&at_rest);
+    sem_wait(&may_go);
+    GC_unregister_my_thread();
+    return data;
+}
+static void events(void)
+{
+    pthread_t thread;
+    others_create(&thread, NULL, wait_in_between, NULL);
+    sem_wait(&at_rest);
+    GC_set_on_thread_event(note_thread);
+    GC_set_on_collection_event(note_stop);
+    CHECK(GC_get_on_thread_event() == note_thread);
+    GC_gcollect();
+    GC_set_on_thread_event(0);
+    GC_set_on_collection_event(0);
+    sem_post(&may_go);
+    pthread_join(thread, NULL);
+    CHECK(suspended > 0 && stops > 0 && is_in_order);
+    CHECK(suspended == went_on && stops == starts);
+}
+
 int main(void)
 {
     void *found = dlsym(dlopen("libc.so.6", RTLD_NOW), "pthread_create");
@@ -209,6 +254,7 @@ int main(void)
     GC_allow_register_threads();
     registering();
     do_blocking();
+    events();
 #ifndef OTHER
     children();
 #endif

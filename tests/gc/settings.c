@@ -21,7 +21,8 @@ static void note_event(GC_EventType event) { events_seen |= 1u << event; }
 static NOINLINE void callbacks(void)
 {
     const unsigned of_all = 1u << GC_EVENT_START | 1u << GC_EVENT_MARK_START | 1u << GC_EVENT_MARK_END | 1u << GC_EVENT_RECLAIM_START |
-                            1u << GC_EVENT_RECLAIM_END | 1u << GC_EVENT_END;
+                            1u << GC_EVENT_RECLAIM_END | 1u << GC_EVENT_END | 1u << GC_EVENT_PRE_STOP_WORLD | 1u << GC_EVENT_POST_STOP_WORLD |
+                            1u << GC_EVENT_PRE_START_WORLD | 1u << GC_EVENT_POST_START_WORLD;
     GC_set_on_collection_event(note_event);
     CHECK(GC_get_on_collection_event() == note_event);
     GC_gcollect();
@@ -67,6 +68,7 @@ static NOINLINE void figures(void)
 static NOINLINE void kept_and_given_back(void)
 {
 #define KEEPS(set, get, value) do { set(value); CHECK(get() == (value)); } while (0)
+    CHECK(GC_get_java_finalization() == 1 && GC_get_time_limit() == GC_TIME_UNLIMITED);
     KEEPS(GC_set_dont_precollect, GC_get_dont_precollect, 1);
     KEEPS(GC_set_no_dls, GC_get_no_dls, 0);
     KEEPS(GC_set_force_unmap_on_gcollect, GC_get_force_unmap_on_gcollect, 1);

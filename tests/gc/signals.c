@@ -3,6 +3,7 @@
 #include <errno.h>
 #include <poll.h>
 #include <signal.h>
+#include <sys/epoll.h>
 #include <sys/select.h>
 #include <sys/syscall.h>
 #include <time.h>
@@ -62,10 +63,12 @@ static int writes_in_a_handler(void)
 }
 
 /* Each way of waiting with all signals blocked but one, whose handler writes. */
+extern int __ppoll_chk(struct pollfd *files, nfds_t count, const struct timespec *timeout, const sigset_t *blocked, size_t room);
 static int writes_under_a_wait(void)
 {
     sigset_t one, others = all();
     struct timespec second = { 1, 0 };
+    struct epoll_event event;
     sigemptyset(&one);
     sigaddset(&one, SIGUSR1);
     sigdelset(&others, SIGUSR1);
@@ -78,8 +81,13 @@ static int writes_under_a_wait(void)
     if (ppoll(NULL, 0, &second, &others) != -1 || errno != EINTR || rings != 2) return 2;
     raise(SIGUSR1);
     if (pselect(0, NULL, NULL, NULL, &second, &others) != -1 || errno != EINTR || rings != 3) return 3;
+    raise(SIGUSR1);
+    if (__ppoll_chk(NULL, 0, &second, &others, 0) != -1 || errno != EINTR || rings != 4) return 4;
+    raise(SIGUSR1);
+    if (epoll_pwait2(epoll_create1(0), &event, 1, &second, &others) != -1 || errno != EINTR || rings != 5) return 5;
 #endif
     (void)second;
+    (void)event;
     end();
     return 0;
 }

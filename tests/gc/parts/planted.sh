@@ -16,6 +16,7 @@ planted() {
         shadow) words=(3 300000) ;;
         threads) words=(3 2) ;;
         world) words=("$room/loaded_local.so") ;;
+        loading) words=("$room/loaded_calling.so") ;;
         collector) words=(2) ;;
         together) words=(4 2) ;;
     esac

@@ -1,0 +1,385 @@
+/* What makes it hard to stop threads: that they are cancelled in a call of the system, make requests as the last they do, are suspended before
+ * they run or while the user changes, made with every signal blocked, or have said that they go; that the whole process is stopped; and faults
+ * of the program's own making, beside the barrier's. */
+#define _GNU_SOURCE
+#define GC_THREADS
+#include <malloc.h>
+#include <pthread.h>
+#include <sched.h>
+#include <signal.h>
+#include <stdint.h>
+#include <sys/mman.h>
+#include <time.h>
+#include "gc.h"
+#include "check.h"
+
+static _Atomic int is_over, stage;
+
+/* A stop interrupts it. */
+static void rest(double seconds)
+{
+    struct timespec left = { (time_t)seconds, (long)((seconds - (double)(time_t)seconds) * 1e9) };
+    while (nanosleep(&left, &left) != 0) continue;
+}
+
+/* Threads that wait in a call of the system are cancelled, beside collections. */
+enum { TOGETHER = 8, CANCELLERS = 3, ROUNDS = 60 };
+static int ends[2];
+static void *read_for_ever(void *data)
+{
+    char byte;
+    GC_malloc(16);
+    while (read(ends[0], &byte, 1) < 0) continue;
+    return data;
+}
+static void *cancel_many(void *data)
+{
+    uintptr_t right = 0;
+    for (int round = 0; round < ROUNDS; round++) {
+        pthread_t all[TOGETHER];
+        for (int k = 0; k < TOGETHER; k++) pthread_create(&all[k], NULL, read_for_ever, data);
+        rest(0.0003);
+        for (int k = 0; k < TOGETHER; k++) pthread_cancel(all[k]);
+        for (int k = 0; k < TOGETHER; k++) {
+            void *answer;
+            right += pthread_join(all[k], &answer) == 0 && answer == PTHREAD_CANCELED;
+        }
+    }
+    return (void *)right;
+}
+static void *collect(void *data)
+{
+    while (!is_over) GC_gcollect();
+    return data;
+}
+static void cancelled(void)
+{
+    pthread_t all[CANCELLERS], collector;
+    if (pipe(ends) != 0) return;
+    pthread_create(&collector, NULL, collect, NULL);
+    for (int k = 0; k < CANCELLERS; k++) pthread_create(&all[k], NULL, cancel_many, NULL);
+    for (int k = 0; k < CANCELLERS; k++) {
+        void *right = NULL;
+        pthread_join(all[k], &right);
+        CHECK((uintptr_t)right == TOGETHER * ROUNDS);
+    }
+    is_over = 1;
+    pthread_join(collector, NULL);
+}
+
+/* A handler writes into the heap, on whichever thread, also one that begins or ends; but not while the world is stopped, which the core sees
+ * that checks what is owed. */
+enum { WRITTEN = 1000 };
+static uint64_t *volatile written[WRITTEN];
+static void write_some(int number)
+{
+    static volatile unsigned at;
+    for (int k = 0; k < 20; k++, at++) written[at % WRITTEN][1] = (uint64_t)number + at;
+}
+static void *ask_once(void *data)
+{
+    GC_malloc(16);
+    return data;
+}
+static void *begin_and_end(void *data)
+{
+    while (!is_over) {
+        pthread_t all[TOGETHER];
+        for (int k = 0; k < TOGETHER; k++) pthread_create(&all[k], NULL, ask_once, data);
+        for (int k = 0; k < TOGETHER; k++) pthread_join(all[k], NULL);
+    }
+    return data;
+}
+/* With rests: without them a thread can find the next one whenever it has handled one, and do nothing else. */
+static void *signal_often(void *data)
+{
+    sigset_t every;
+    sigfillset(&every);
+    pthread_sigmask(SIG_SETMASK, &every, NULL);
+    for (; !is_over; rest(0.00001)) kill(getpid(), SIGUSR1);
+    return data;
+}
+static int handles_signals(void)
+{
+    pthread_t makers[2], sender;
+    time_t end = time(NULL) + 4;
+    alarm(60);
+    for (int k = 0; k < WRITTEN; k++) written[k] = GC_malloc(64);
+    sigaction(SIGUSR1, &(struct sigaction){ .sa_handler = write_some, .sa_flags = SA_RESTART }, NULL);
+    is_over = 0;
+    for (int k = 0; k < 2; k++) pthread_create(&makers[k], NULL, begin_and_end, NULL);
+    pthread_create(&sender, NULL, signal_often, NULL);
+    while (time(NULL) < end) GC_gcollect();
+    is_over = 1;
+    for (int k = 0; k < 2; k++) pthread_join(makers[k], NULL);
+    return pthread_join(sender, NULL);
+}
+
+/* Who collects without an end lets others come, who need the lock and are stopped. How many collections that takes tells it, whatever time it
+ * takes; but where the machine has more work than processors they may wait for these: so it is tried again. */
+enum { THREADS = 300 };
+static GC_word collections_beside_threads(void)
+{
+    pthread_t collector;
+    int right = 0;
+    is_over = 0;
+    pthread_create(&collector, NULL, collect, NULL);
+    GC_word before = GC_get_gc_no();
+    for (int k = 0; k < THREADS; k++) {
+        pthread_t thread;
+        right += pthread_create(&thread, NULL, ask_once, NULL) == 0 && pthread_join(thread, NULL) == 0;
+    }
+    GC_word count = GC_get_gc_no() - before;
+    is_over = 1;
+    return pthread_join(collector, NULL) == 0 && right == THREADS ? count : (GC_word)-1;
+}
+static int collects_on(void)
+{
+    enum { TRIES = 10 };
+    alarm(100);
+    for (int k = 0; k < TRIES; k++)
+        if (collections_beside_threads() <= 10 * THREADS) return 0;
+    return 1;
+}
+
+/* Who has the lock nearly always lets those have it who wait. */
+static _Atomic int turns;
+static void *hold_for_long(void *data)
+{
+    turns++;
+    rest(0.001);
+    return data;
+}
+static void *hold_again_and_again(void *data)
+{
+    while (!is_over) GC_call_with_alloc_lock(hold_for_long, data);
+    return data;
+}
+enum { TIMES = 40 };
+static int turns_beside_requests(void)
+{
+    pthread_t holding;
+    is_over = turns = 0;
+    pthread_create(&holding, NULL, hold_again_and_again, NULL);
+    while (turns == 0) sched_yield();
+    for (int k = 0; k < TIMES; k++) GC_malloc(100000);
+    is_over = 1;
+    return pthread_join(holding, NULL) == 0 ? turns : 1000000;
+}
+static int lets_others_have_the_lock(void)
+{
+    enum { TRIES = 3, MOST = 5 * TIMES };
+    alarm(60);
+    for (int k = 0; k < TRIES; k++)
+        if (turns_beside_requests() <= MOST) return 0;
+    return 1;
+}
+
+/* Threads whose last destructors of keys make requests, when no destructor of the library's will come any more, beside collections. */
+static pthread_key_t key;
+static void come_again(void *data)
+{
+    GC_malloc(16);
+    pthread_setspecific(key, data);
+}
+static void *set_key(void *data)
+{
+    pthread_setspecific(key, &key);
+    return data;
+}
+static void destroyed_late(void)
+{
+    pthread_t collector;
+    int right = 0;
+    is_over = 0;
+    pthread_key_create(&key, come_again);
+    pthread_create(&collector, NULL, collect, NULL);
+    for (int k = 0; k < THREADS; k++) {
+        pthread_t thread;
+        right += pthread_create(&thread, NULL, set_key, NULL) == 0 && pthread_join(thread, NULL) == 0;
+    }
+    is_over = 1;
+    pthread_join(collector, NULL);
+    CHECK(right == THREADS);
+}
+
+/* A thread that is known from the beginning says that it goes, and goes on for some time: its record is written no more. */
+static void *says_that_it_goes(void *data)
+{
+    GC_malloc(16);
+    GC_unregister_my_thread();
+    stage = 1;
+    while (stage == 1) sched_yield();
+    return data;
+}
+static void unregistered(void)
+{
+    enum { BLOCKS = 300, BYTES = 256 };
+    static unsigned char *blocks[BLOCKS];
+    int others = 0;
+    pthread_t thread;
+    void *answer = NULL;
+    pthread_create(&thread, NULL, says_that_it_goes, &stage);
+    while (stage == 0) sched_yield();
+    for (int k = 0; k < BLOCKS; k++) {
+        blocks[k] = malloc(BYTES);
+        memset(blocks[k], 0, malloc_usable_size(blocks[k]));
+    }
+    stage = 2;
+    pthread_join(thread, &answer);
+    for (int k = 0; k < BLOCKS; k++)
+        for (size_t i = 0; i < malloc_usable_size(blocks[k]); i++) others += blocks[k][i] != 0;
+    CHECK(others == 0 && answer == &stage);
+}
+
+/* Suspended as soon as it is made: it doesn't run before it is told to, and collections find what it has. */
+extern void GC_suspend_thread(pthread_t thread);
+extern void GC_resume_thread(pthread_t thread);
+static _Atomic long steps;
+static void *step(void *data)
+{
+    for (int k = 0; k < 1000; k++) steps += GC_malloc(64) != NULL;
+    return data;
+}
+static void suspended(void)
+{
+    int ran = 0;
+    for (int k = 0; k < 200; k++) {
+        pthread_t thread;
+        pthread_create(&thread, NULL, step, NULL);
+        GC_suspend_thread(thread);
+        long seen = steps;
+        GC_gcollect();
+        ran += steps != seen;
+        GC_resume_thread(thread);
+        pthread_join(thread, NULL);
+    }
+    CHECK(ran == 0 && steps == 200 * 1000);
+}
+
+/* The process changes its user, which each thread does by a signal of the C library's, while one is suspended. */
+static void *wait_for_the_end(void *data)
+{
+    while (!is_over) GC_malloc(64);
+    return data;
+}
+static int changes_its_user(void)
+{
+    pthread_t thread;
+    alarm(60);
+    is_over = 0;
+    if (pthread_create(&thread, NULL, wait_for_the_end, NULL) != 0) return 1;
+    rest(0.01);
+    GC_suspend_thread(thread);
+    if (setuid(getuid()) != 0) return 2;
+    is_over = 1;
+    GC_resume_thread(thread);
+    return pthread_join(thread, NULL);
+}
+
+/* A thread that is made with every signal blocked writes to pages that are closed. */
+enum { MANY = 20000 };
+static void **all_of_them[MANY];
+static void *write_to_all(void *data)
+{
+    while (!is_over)
+        for (int k = 0; k < MANY; k++) ((void *volatile *)all_of_them[k])[1] = all_of_them[k];
+    return data;
+}
+static int made_blocked(void)
+{
+    pthread_attr_t attributes;
+    sigset_t every;
+    pthread_t thread;
+    alarm(60);
+    GC_enable_incremental();
+    for (int k = 0; k < MANY; k++) all_of_them[k] = GC_malloc(64);
+    sigfillset(&every);
+    pthread_attr_init(&attributes);
+    pthread_attr_setsigmask_np(&attributes, &every);
+    is_over = 0;
+    pthread_create(&thread, &attributes, write_to_all, NULL);
+    for (int k = 0; k < 1000000; k++) GC_malloc(32);
+    is_over = 1;
+    return pthread_join(thread, NULL);
+}
+
+/* The program protects a page of an object, and opens it in its handler. */
+static char *protected;
+static volatile int opened;
+static void open_it(int number)
+{
+    (void)number;
+    opened++;
+    mprotect(protected, 4096, PROT_READ | PROT_WRITE);
+}
+static int protects_itself(void)
+{
+    alarm(60);
+    GC_enable_incremental();
+    signal(SIGSEGV, open_it);
+    for (int k = 0; k < 300000; k++) GC_malloc(64);
+    char *object = GC_malloc(16384);
+    protected = (char *)(((uintptr_t)object + 4095) & ~(uintptr_t)4095);
+    for (int k = 1; k <= 3; k++) {
+        if (mprotect(protected, 4096, PROT_READ) != 0) return 9;
+        *(volatile char *)protected = (char)k;
+        if (opened != k || *protected != k) return k;
+    }
+    return 0;
+}
+
+/* The process is stopped for longer than a thread is waited for, in the middle of a stop of the world. */
+static void *start_slowly(void *data)
+{
+    GC_malloc(16);
+    if (vfork() == 0) {
+        rest(3);
+        _exit(0);
+    }
+    return data;
+}
+static int is_stopped_itself(void)
+{
+    pthread_t thread;
+    pid_t parent = getpid();
+    if (fork() == 0) {
+        rest(1.5);
+        kill(parent, SIGSTOP);
+        rest(21);
+        kill(parent, SIGCONT);
+        _exit(0);
+    }
+    if (pthread_create(&thread, NULL, start_slowly, NULL) != 0) return 1;
+    rest(0.5);
+    GC_gcollect();
+    return pthread_join(thread, NULL);
+}
+static pid_t begin_in_child(int (*body)(void))
+{
+    pid_t child = fork();
+    if (child == 0) _exit(body());
+    return child;
+}
+
+int main(void)
+{
+    int status = -1;
+    alarm(300);
+    GC_INIT();
+    GC_allow_register_threads();
+    pid_t stopped = begin_in_child(is_stopped_itself);
+    unregistered();
+    suspended();
+    CHECK(status_of(changes_its_user) == 0);
+    CHECK(status_of(handles_signals) == 0);
+    CHECK(status_of(collects_on) == 0);
+    CHECK(status_of(lets_others_have_the_lock) == 0);
+    CHECK(status_of(made_blocked) == 0);
+    CHECK(status_of(protects_itself) == 0);
+    cancelled();
+    destroyed_late();
+    while (waitpid(stopped, &status, 0) < 0) continue;
+    CHECK(WIFEXITED(status) && WEXITSTATUS(status) == 0);
+    return check_ends();
+}
