@@ -55,15 +55,20 @@ OF_KIND(GC_debug_generic_or_special_malloc, (size_t bytes, int kind, ...), (byte
 OF_KIND(GC_generic_malloc_uncollectable, (size_t bytes, int kind),
         (bytes, kind == ATOMIC || kind == ATOMIC_UNCOLLECTABLE ? ATOMIC_UNCOLLECTABLE : UNCOLLECTABLE))
 
-// A list of objects, linked by their first words. The bytes are those of a whole cell, the one past the end among them. A request may collect,
-// and the words of some kinds aren't read: so they are linked when all are there.
+// A list of objects, linked by their first words; of large ones it has one. The bytes are those of a whole cell, the one past the end among them.
+// A request may collect, and the words of some kinds aren't read: so they are linked when all are there. And each thread keeps the list that it
+// was given last, since beside the collector's thread a collection may end before the program has gone through it.
+enum { MANY = 32 };
+static _Thread_local void **volatile last_list[MANY] __attribute__((tls_model("initial-exec")));
+
 SHOWN void GC_generic_malloc_many(size_t bytes, int kind, void **list);
 void GC_generic_malloc_many(size_t bytes, int kind, void **list)
 {
-    enum { MANY = 32 };
-    void **made[MANY];
-    int count = 0;
-    while (count < MANY && (made[count] = mpgc_malloc_kind(bytes - (GC_get_all_interior_pointers() ? 1 : 0), kind))) count++;
+    void **made[MANY] = { NULL };
+    int wanted = bytes <= PAGE / 2 ? MANY : 1, count = 0;
+    size_t asked = bytes - (GC_get_all_interior_pointers() ? 1 : 0);
+    while (count < wanted && (made[count] = mpgc_malloc_kind(asked, kind))) count++;
+    for (int k = 0; k < MANY; k++) last_list[k] = made[k];
     *list = NULL;
     for (int k = 0; k < count; k++) {
         *made[k] = *list;

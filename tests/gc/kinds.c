@@ -416,6 +416,43 @@ static NOINLINE void lists_of_a_kind(void)
     GC_set_free_space_divisor(divisor);
 }
 
+#ifndef OTHER
+/* The list that the thread was given last is there until it is given another one, also where the program has but its first object; of large objects it
+ * has one. */
+static NOINLINE void hide_list(void *list)
+{
+    GC_generic_malloc_many(32, 0, list);
+    int k = 0;
+    for (void **one = *(void **)list; one && k < LONG; one = *one, k++) {
+        hidden[k] = GC_HIDE_POINTER(one);
+        GC_general_register_disappearing_link((void **)&hidden[k], one);
+    }
+}
+static NOINLINE int length_of_large(void)
+{
+    int length = 0;
+    void *list;
+    GC_generic_malloc_many(100000, 1, &list);
+    for (; list; list = *(void **)list) length++;
+    return length;
+}
+static NOINLINE void last_lists(void)
+{
+    static void *first;
+    int length = 0;
+    hide_list(&first);
+    while (length < LONG && hidden[length]) length++;
+    CHECK(length > 1);
+    collect();
+    CHECK(count_gone(0, length) == 0);
+    first = NULL;
+    CHECK(length_of_large() == 1);
+    collect();
+    CHECK(count_gone(0, length) >= length - 3);
+    forget_all();
+}
+#endif
+
 int main(void)
 {
     GC_INIT();
@@ -427,6 +464,9 @@ int main(void)
     moved();
     kinds();
     lists_of_a_kind();
+#ifndef OTHER
+    last_lists();
+#endif
     per_object();
     toggles();
     disclaims();
