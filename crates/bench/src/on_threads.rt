@@ -73,7 +73,7 @@ fn time_workload<R: Threads + Wait + Sync + Eprint + Clock>(
     };
     let mut least = u128::MAX;
     for _ in 0..ROUNDS {
-        least = least.min(cost(rt, alloc, workload, helpers)?);
+        least = least.min(cost(rt, alloc, workload, helpers.where_it_pays())?);
     }
     report(rt, name, least, lines, 0)
 }

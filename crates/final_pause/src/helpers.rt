@@ -5,12 +5,13 @@ ghost use Rattle.words.specs.declared.limits.TheConstants.{MAX_HELPERS};
 use std::marker::Model;
 use words::limits::MAX_HELPERS;
 
-// How many words the pages in use have at least where helpers start: to mark that much alone takes some times as long as to
+// How many words the pages in use have at least where helpers pay: to mark that much alone takes some times as long as to
 // start a thread.
 const LEAST_WORDS: u64 = 65_536;
 
 /// The helpers of a pause, from 1 to [`MAX_HELPERS`], and how many words the heap's pages in use have at least where they
-/// start. Over fewer the calling thread marks alone, and over more it does so until it has read a quarter as many.
+/// start. With 0 they start at once. Else the calling thread marks alone over fewer, and over more until it has read a
+/// quarter as many.
 #[derive(Clone, Copy, Debug, PartialEq, Eq)]
 pub struct Helpers {
     number: u8,
@@ -32,28 +33,28 @@ impl Model for Helpers {
 }
 
 impl Helpers {
-    /// So many helpers, which start where they have enough to do, and `None` exactly out of range.
+    /// So many helpers, which start at once, and `None` exactly out of range.
     pub fn new(number: u8) -> Option<Helpers>
-        ensures { MatchOption result ((number ≡ 0) ⊎ (MAX_HELPERS < number)) (λ helpers. (helpers.number ≡ number) × (0 < number) × (number ≤ MAX_HELPERS)) }
+        ensures { MatchOption result ((number ≡ 0) ⊎ (MAX_HELPERS < number)) (λ helpers. (helpers.number ≡ number) × (helpers.least_words ≡ 0) × (0 < number) × (number ≤ MAX_HELPERS)) }
     {
         if number == 0 || number > MAX_HELPERS {
             None
         } else {
             Some(Helpers {
                 number,
-                least_words: LEAST_WORDS,
+                least_words: 0,
             })
         }
     }
 
-    /// As many, which start at once, however little there is to do.
-    pub fn at_once(self) -> Helpers
+    /// As many, which start where there is so much to do that they take less time than the calling thread alone.
+    pub fn where_it_pays(self) -> Helpers
         ensures number { result.number ≡ self.number }
-        ensures least { result.least_words ≡ 0 }
+        ensures least { 0 < result.least_words }
     {
         Helpers {
             number: self.number,
-            least_words: 0,
+            least_words: LEAST_WORDS,
         }
     }
 
@@ -66,7 +67,7 @@ impl Helpers {
         self.number
     }
 
-    /// How many words the heap's pages in use have at least where they start. With 0 they start at once.
+    /// How many words the heap's pages in use have at least where they start, and 0 if they start at once.
     pub fn least_words(self) -> u64
         ensures { result ≡ self.least_words }
     {

@@ -83,7 +83,7 @@ fn meets(
     for helper in 1..roots.len() {
         roots[helper] = scene.object(199 + helper)?.base;
     }
-    let helpers = Helpers::new(number).ok_or("a number of helpers")?.at_once();
+    let helpers = Helpers::new(number).ok_or("a number of helpers")?;
     let gate = Meeting::new(number);
     scene.heap.begin();
     scene
@@ -119,7 +119,7 @@ fn closes(
 ) -> Result<(), Fail> {
     let before = scene.marked()?;
     let wanted = scene.graph.closure(scene.alloc, before.as_slice(), roots)?;
-    let helpers = Helpers::new(number).ok_or("a number of helpers")?.at_once();
+    let helpers = Helpers::new(number).ok_or("a number of helpers")?;
     scene
         .heap
         .close_with(rt, scene.alloc, roots, helpers, &Open);

@@ -139,7 +139,7 @@ pub(crate) fn close_by_two(
     second: u64,
 ) -> Result<(), Fail> {
     let roots = roots_at(scene, places)?;
-    let helpers = Helpers::new(2).ok_or("two helpers")?.at_once();
+    let helpers = Helpers::new(2).ok_or("two helpers")?;
     let gate = Record::new();
     scene
         .heap
@@ -240,7 +240,7 @@ fn claim_roots_first(
     for (place, number) in [(0, 5), (1, 6), (3, 2), (5, 3), (7, 4)] {
         roots[place] = scene.object(number)?.base;
     }
-    let helpers = Helpers::new(2).ok_or("two helpers")?.at_once();
+    let helpers = Helpers::new(2).ok_or("two helpers")?;
     let gate = Held {
         record: Record::new(),
     };

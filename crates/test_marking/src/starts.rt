@@ -67,7 +67,7 @@ fn close_by_two(
     root: u64,
     marks: usize,
 ) -> Result<(u64, u64), Fail> {
-    let helpers = Helpers::new(2).ok_or("two helpers")?;
+    let helpers = Helpers::new(2).ok_or("two helpers")?.where_it_pays();
     let gate = Counting {
         first: AtomicU64::new(0),
         second: AtomicU64::new(0),

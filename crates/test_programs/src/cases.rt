@@ -86,6 +86,7 @@ const BAD_WORDS: &[&[&str]] = &[
     &["run", "--help"],
     &["run", "--pages"],
     &["run", "--pages", "0"],
+    &["run", "--pages", "4097"],
     &["run", "--pages", "04"],
     &["run", "--pages", "four"],
     &["run", "--pages", "18446744073709551616"],

@@ -146,7 +146,7 @@ fn calls(slot: Slot, global: words::Global, helpers: Helpers) -> [Asked; 25] {
 fn no_call_brings_a_mutator(rt: HostRuntime) -> Result<(), Fail> {
     let slot = Slot::new(0).ok_or("a slot")?;
     let global = words::Global::new(0).ok_or("a global")?;
-    let helpers = Helpers::new(2).ok_or("two helpers")?.at_once();
+    let helpers = Helpers::new(2).ok_or("two helpers")?;
     let opened = open(rt.alloc(), 4).ok().ok_or("a heap")?;
     check::<Brand, _>(&rt, rt.alloc(), opened, &calls(slot, global, helpers));
     Ok(())

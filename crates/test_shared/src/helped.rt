@@ -154,7 +154,7 @@ fn a_cycle_ends_alone(rt: HostRuntime) -> Result<(), Fail> {
 #[test]
 fn any_number_of_helpers_ends_it_alike(rt: HostRuntime) -> Result<(), Fail> {
     for number in 1..=MAX_HELPERS {
-        let helpers = Helpers::new(number).ok_or("helpers")?.at_once();
+        let helpers = Helpers::new(number).ok_or("helpers")?;
         let opened = open(rt.alloc(), 4).ok().ok_or("a heap")?;
         let helped = end_cycles::<Brand, _>(&rt, rt.alloc(), opened, Some(helpers));
         assert_eq!(rt; helped, WANTED, "{number} helpers");
@@ -169,7 +169,7 @@ fn refused_memory(rt: HostRuntime) -> Result<(), Fail> {
     let Ok(opened) = open(rt.alloc(), 4) else {
         return Ok(());
     };
-    let helpers = Helpers::new(2).ok_or("two helpers")?.at_once();
+    let helpers = Helpers::new(2).ok_or("two helpers")?;
     let helped = end_cycles::<Brand, _>(&rt, rt.alloc(), opened, Some(helpers));
     assert_eq!(rt; helped, WANTED);
     Ok(())

@@ -99,7 +99,7 @@ fn check(
 ) -> Result<(), Fail> {
     run(helped, text)?;
     run(alone, text)?;
-    let helpers = Helpers::new(number).ok_or("a number of helpers")?.at_once();
+    let helpers = Helpers::new(number).ok_or("a number of helpers")?;
     assert_eq!(rt; close_with(rt, alloc, helped, helpers), Ok(()));
     compare(rt, helped, alone)
 }
@@ -176,7 +176,7 @@ fn check_new_partial(
 ) -> Result<(), Fail> {
     let mut helped = Core::new(alloc, PAGES).ok().ok_or("a core")?;
     let mut alone = Core::new(alloc, PAGES).ok().ok_or("a core")?;
-    let helpers = Helpers::new(number).ok_or("a number of helpers")?.at_once();
+    let helpers = Helpers::new(number).ok_or("a number of helpers")?;
     check_partial(rt, alloc, &mut helped, &mut alone, text, helpers)
 }
 
@@ -229,7 +229,7 @@ fn more_objects_than_entries_are_kept(rt: HostRuntime) -> Result<(), Fail> {
 
 #[test]
 fn helpers_wait_for_a_cycle(rt: HostRuntime) -> Result<(), Fail> {
-    let helpers = Helpers::new(2).ok_or("two helpers")?.at_once();
+    let helpers = Helpers::new(2).ok_or("two helpers")?;
     let mut core = Core::new(rt.alloc(), 1).ok().ok_or("a core")?;
     let answer = close_with(&rt, rt.alloc(), &mut core, helpers);
     assert_eq!(&rt; answer, Err(Refusal::WrongPhase));

@@ -38,7 +38,7 @@ fn close(
     core: &mut Core,
 ) -> Result<(), Fail> {
     run(core, MARKING.as_bytes())?;
-    let helpers = Helpers::new(MAX_HELPERS).ok_or("eight helpers")?.at_once();
+    let helpers = Helpers::new(MAX_HELPERS).ok_or("eight helpers")?;
     assert_eq!(rt; close_with(rt, alloc, core, helpers), Ok(()));
     ends(rt, core)
 }

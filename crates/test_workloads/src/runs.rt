@@ -36,7 +36,7 @@ pub fn run_read<R: Threads + Wait + Abort + Sync, G: Gate>(
 ) -> Result<(), ScriptError> {
     let Setting { pages, helpers } = setting;
     assert!(rt; 1 <= pages && pages <= MAX_PAGES);
-    let helpers = Helpers::new(helpers).expect(rt, "helpers").at_once();
+    let helpers = Helpers::new(helpers).expect(rt, "helpers");
     output.clear();
     run_workload(rt, alloc, input, output, pages, helpers, gate)
 }
