@@ -114,6 +114,7 @@ static void keeps_what_is_reached(uint8_t helpers, uint64_t bound, int rounds) {
 }
 
 static void refuses_what_does_not_fit(void) {
+    mpheap other = MPHEAP_CLOSED;
     mpheap_shares *all = &shares[0], *one = &shares[1], *two = &shares[2];
     IS(mpheap_open_mapped(8, &heap), MPHEAP_OK);
     IS(mpheap_share(&heap, 2, all), MPHEAP_WRONG_PHASE);
@@ -126,6 +127,11 @@ static void refuses_what_does_not_fit(void) {
     IS(mpheap_join(all, one), MPHEAP_BAD_NUMBER);
     IS(mpheap_help(all, 1), 0);
     IS(mpheap_share(&heap, 3, all), MPHEAP_OK);
+    IS(mpheap_open(8, &other), MPHEAP_OK);
+    IS(mpheap_begin(&other), MPHEAP_OK);
+    IS(mpheap_share(&other, 2, all), MPHEAP_BAD_NUMBER);
+    IS(other.core != NULL, 1);
+    mpheap_close(&other);
     IS(mpheap_hire(all, one), MPHEAP_OK);
     IS(mpheap_hire(all, one), MPHEAP_BAD_NUMBER);
     IS(mpheap_hire(all, two), MPHEAP_OK);

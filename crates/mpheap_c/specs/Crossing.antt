@@ -57,7 +57,7 @@ pub data IsOpenedAs (pages status : ℕ) (old new : Option CoreContents) : Type 
 pub data IsOpenedWith (pages request_words status : ℕ) (old new : Option CoreContents) : Type 0 where
   opened : (c : CoreContents) → status ≡ 0 → IsPageCountWithin MOST_PAGES pages → IsNewWith pages request_words c → new ≡ Some c → IsOpenedWith pages request_words status old new
   bad_limits : status ≡ 101 → IsNoPageCountWithin MOST_PAGES pages ⊎ (MOST_REQUEST_WORDS < request_words) → new ≡ old → IsOpenedWith pages request_words status old new
-  memory : status ≡ 102 → IsPageCountWithin MOST_PAGES pages → new ≡ old → IsOpenedWith pages request_words status old new
+  memory : status ≡ 102 → IsPageCountWithin MOST_PAGES pages → request_words ≤ MOST_REQUEST_WORDS → new ≡ old → IsOpenedWith pages request_words status old new
 
 -- The status and the slot that was written tell a result. A refused call leaves the slot as it was.
 abbrev pub TellsSlot : ℕ → ℕ → ℕ → Result ℕ Refusal → Type 0

@@ -13,19 +13,23 @@ Stands place s = place ≡ Some (record { shares = Some s })
 abbrev pub IsEmptyPlace : Option Place → Type 0
 IsEmptyPlace place = place ≡ Some (record { shares = None })
 
--- The core of a heap was lent to so many helpers, whose shares stand in the place; or nothing has changed, since no cycle is marking, since
--- the number is out of range or shares stand there already, or since memory was refused.
+-- The core of a heap was lent to so many helpers, whose shares stand in the place, where none stood; or nothing has changed, since no
+-- cycle is marking, since the number is out of range or shares stand there already, or since memory was refused.
 pub data IsShared (helpers status : ℕ) (heap : Option CoreContents) (place : Option Place) (heap' : Option CoreContents) (place' : Option Place) : Type 0 where
-  shared : (c : CoreContents) (s : Sharing) → status ≡ 0 → heap ≡ Some c → c.cycle.is_marking ≡ true → heap' ≡ None → Stands place' s → s.core ≡ c → s.from ≡ 0 → length s.crew ≡ helpers → IsShared helpers status heap place heap' place'
+  shared : (c : CoreContents) (s : Sharing) → status ≡ 0 → heap ≡ Some c → c.cycle.is_marking ≡ true → IsEmptyPlace place → heap' ≡ None → Stands place' s → s.core ≡ c → s.from ≡ 0 → length s.crew ≡ helpers → IsShared helpers status heap place heap' place'
   idle : (c : CoreContents) → status ≡ 9 → heap ≡ Some c → c.cycle.is_marking ≡ false → heap' ≡ heap → place' ≡ place → IsShared helpers status heap place heap' place'
   bad : status ≡ 100 → (helpers ≡ 0) ⊎ (MAX_HELPERS < helpers) ⊎ ((s : Sharing) × Stands place s) → heap' ≡ heap → place' ≡ place → IsShared helpers status heap place heap' place'
   memory : status ≡ 102 → heap' ≡ heap → place' ≡ place → IsShared helpers status heap place heap' place'
 
--- The last share has gone to the other place; or nothing has changed, since there is none, or shares stand there already, or since memory was refused.
+-- Why no share goes to the other place: shares stand there already, or in the first place none stand, or none that is left.
+abbrev pub CantHire : Option Place → Option Place → Type 0
+CantHire all one = ((s : Sharing) × Stands one s) ⊎ IsEmptyPlace all ⊎ ((s : Sharing) × Stands all s × (length s.crew ≡ 0))
+
+-- The last share has gone to the other place; or nothing has changed, since none can go there, or since memory was refused.
 pub data IsHired (status : ℕ) (all one all' one' : Option Place) : Type 0 where
   hired : (s t u : Sharing) → status ≡ 0 → Stands all s → IsEmptyPlace one → Stands all' t → Stands one' u → HasShares s s.from (length t.crew) t → HasShares s (s.from + length t.crew) 1 u → length t.crew + 1 ≡ length s.crew
       → IsHired status all one all' one'
-  bad : status ≡ 100 → all' ≡ all → one' ≡ one → IsHired status all one all' one'
+  bad : status ≡ 100 → CantHire all one → all' ≡ all → one' ≡ one → IsHired status all one all' one'
   memory : status ≡ 102 → all' ≡ all → one' ≡ one → IsHired status all one all' one'
 
 -- The shares that stand there are done; or none do, and nothing has changed.

@@ -2,7 +2,7 @@ use Rattle.std.proofs.Common.{◌≡◌, false, refl, sym, inr, ap, ◌∙◌, S
 use Rattle.heap_core.specs.CoreContents.{CoreContents}
 use Rattle.mpheap_c.specs.declared.handle.Handle.{Handle}
 use Rattle.mpheap_c.specs.Sharing.IsShared.{shared, idle, bad}
-use Rattle.mpheap_c.proofs.Places.{stands, some_of}
+use Rattle.mpheap_c.proofs.Places.{stands, some_of, is_empty, none_of}
 use Rattle.mpheap_c.proofs.shares.mpheap_share.Goals as goal
 
 pub returns-then-is_some : goal.returns-then-is_some
@@ -14,7 +14,9 @@ pub returns-in-Ok : goal.returns-in-Ok
 returns-in-Ok c =
     let e = c.in-Ok.ensures.ok in
     let core : c.args.heap.now.core ≡ Some c.into_box-core.result.value = c.inside.ensures.value.1 ∙ (ap (λ (h : Handle CoreContents). h.value) (sym c.replace.ensures.value) ∙ c.into_box-core.ensures) in
-    shared c.into_box-core.result.value c.in-Ok.shares refl core e.0 (ap (λ (h : Handle CoreContents). h.value) c.replace.ensures.after ∙ c.closed.ensures.0) refl e.1 e.2 (e.3 ∙ c.in-Some.ensures.0)
+    shared c.into_box-core.result.value c.in-Ok.shares refl core e.0
+    (is_empty _ c.place-place.result.now c.place-place.ensures.value (none_of _ (sym c.is_some.ensures ∙ c.if-is_some.false)))
+    (ap (λ (h : Handle CoreContents). h.value) c.replace.ensures.after ∙ c.closed.ensures.0) refl e.1 e.2 (e.3 ∙ c.in-Some.ensures.0)
 
 pub returns-in-WrongPhase : goal.returns-in-WrongPhase
 returns-in-WrongPhase c =
