@@ -1,5 +1,5 @@
 -- What the calls by which threads of C share the marking do to handles.
-use Rattle.std.specs.Prelude.{◌≡◌, ℕ, ◌+◌, ◌<◌, ◌⊎◌, true, false, length, Option, Some, None}
+use Rattle.std.specs.Prelude.{◌≡◌, ℕ, ◌+◌, ◌<◌, ◌⊎◌, ◌++◌, true, false, length, Option, Some, None}
 use Rattle.words.specs.declared.limits.TheConstants.{MAX_HELPERS}
 use Rattle.heap_core.specs.CoreContents.{CoreContents}
 use Rattle.heap_core.specs.Sharing.{Sharing, HasShares, MarksTogether}
@@ -25,10 +25,10 @@ pub data IsShared (helpers status : ℕ) (heap : Option CoreContents) (place : O
 abbrev pub CantHire : Option Place → Option Place → Type 0
 CantHire all one = ((s : Sharing) × Stands one s) ⊎ IsEmptyPlace all ⊎ ((s : Sharing) × Stands all s × (length s.crew ≡ 0))
 
--- The last share has gone to the other place; or nothing has changed, since none can go there, or since memory was refused.
+-- The last share has gone to the other place as it is; or nothing has changed, since none can go there, or since memory was refused.
 pub data IsHired (status : ℕ) (all one all' one' : Option Place) : Type 0 where
   hired : (s t u : Sharing) → status ≡ 0 → Stands all s → IsEmptyPlace one → Stands all' t → Stands one' u → HasShares s s.from (length t.crew) t → HasShares s (s.from + length t.crew) 1 u → length t.crew + 1 ≡ length s.crew
-      → IsHired status all one all' one'
+      → s.crew ≡ t.crew ++ u.crew → IsHired status all one all' one'
   bad : status ≡ 100 → CantHire all one → all' ≡ all → one' ≡ one → IsHired status all one all' one'
   memory : status ≡ 102 → all' ≡ all → one' ≡ one → IsHired status all one all' one'
 
@@ -37,9 +37,10 @@ pub data IsHelped (old new : Option Place) : Type 0 where
   helped : (s t : Sharing) → Stands old s → Stands new t → HasShares s s.from (length s.crew) t → t.is_done ≡ true → IsHelped old new
   none : IsEmptyPlace old → new ≡ old → IsHelped old new
 
--- The shares of the second place have come back behind those of the first; or nothing has changed.
+-- The shares of the second place have come back, as they are, behind those of the first; or nothing has changed.
 pub data IsJoined (status : ℕ) (all one all' one' : Option Place) : Type 0 where
-  joined : (s t u : Sharing) → status ≡ 0 → Stands all s → Stands one t → Stands all' u → IsEmptyPlace one' → t.from ≡ s.from + length s.crew → HasShares s s.from (length s.crew + length t.crew) u → IsJoined status all one all' one'
+  joined : (s t u : Sharing) → status ≡ 0 → Stands all s → Stands one t → Stands all' u → IsEmptyPlace one' → t.from ≡ s.from + length s.crew → HasShares s s.from (length s.crew + length t.crew) u → u.crew ≡ s.crew ++ t.crew
+      → IsJoined status all one all' one'
   bad : status ≡ 100 → all' ≡ all → one' ≡ one → IsJoined status all one all' one'
 
 -- The core is back in the heap's handle, and what its helpers did is put together; or a share is out, and the heap stays closed.

@@ -1,6 +1,6 @@
 //! The marking of a cycle by helpers whom the caller runs: the core is lent to a round of them, shares go to other threads and come back,
 //! and what they won and left is put together.
-ghost use Rattle.std.specs.Prelude.{◌≡◌, ℕ, ◌+◌, ◌<◌, ◌⊎◌, true, false, IfOk, IfErr, MatchOption, length, vec_len, slice_index_or};
+ghost use Rattle.std.specs.Prelude.{◌≡◌, ℕ, ◌+◌, ◌<◌, ◌⊎◌, true, false, ◌++◌, IfOk, IfErr, OnOk, IfSome, MatchOption, length, vec_len, slice_index_or};
 ghost use Rattle.final_pause.specs.declared.helper.Helper.{Helper as HelperValue};
 ghost use Rattle.final_pause.specs.Serving.{IsServing, HasServed};
 ghost use Rattle.final_pause.specs.Rounds.{IsRound, AreServing, AreServed};
@@ -127,12 +127,13 @@ impl Shares {
         }
     }
 
-    /// Takes the last share out, for another thread, and `None` where there is none.
+    /// Takes the last share out as it is, for another thread, and `None` where there is none.
     ///
     /// # Errors
     /// [`AllocError`] where a growth of memory was refused. Then nothing has changed.
     pub fn hire(&mut self, alloc: Global) -> Result<Option<Shares>, AllocError>
         ensures ok { IfOk result (λ o. MatchOption o ((length self.old.crew ≡ 0) × (self.new ≡ self.old)) (λ one. HasShares self.old self.old.from (length self.new.crew) self.new × HasShares self.old (self.old.from + length self.new.crew) 1 one × (length self.new.crew + 1 ≡ length self.old.crew))) }
+        ensures moved { IfOk result (λ o. IfSome o (λ one. self.old.crew ≡ self.new.crew ++ one.crew)) }
         ensures err { IfErr result (λ _. self.new ≡ self.old) }
     {
         let mut crew = Vec::with_capacity(alloc, 1)?;
@@ -172,6 +173,7 @@ impl Shares {
     pub fn join(&mut self, other: Shares) -> Result<(), Shares>
         requires same { IsSameRound self.old other }
         ensures ok { IfOk result (λ _. HasShares self.old self.old.from (length self.old.crew + length other.crew) self.new × (other.from ≡ self.old.from + length self.old.crew)) }
+        ensures moved { OnOk result (self.new.crew ≡ self.old.crew ++ other.crew) }
         ensures err { IfErr result (λ back. (back ≡ other) × (self.new ≡ self.old)) }
     {
         let Some(next) = self.from.checked_add(self.crew.len()) else {

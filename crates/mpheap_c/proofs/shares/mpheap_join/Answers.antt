@@ -14,4 +14,4 @@ pub returns-in-Ok : goal.returns-in-Ok
 returns-in-Ok c = let e = c.in-Ok.ensures.ok in
     joined c.in-Some.shares c.in-Some-take.other c.join.new.self refl (stands _ c.place.result.now _ c.place.ensures.value c.in-Some.is)
     (stands _ c.place-place.result.now _ c.place-place.ensures.value (sym c.take.ensures.value ∙ c.in-Some-take.is)) refl
-    (ap (λ (x : Option Sharing). Some (record { shares = x })) c.take.ensures.after) e.1 e.0
+    (ap (λ (x : Option Sharing). Some (record { shares = x })) c.take.ensures.after) e.1 e.0 c.in-Ok.ensures.moved

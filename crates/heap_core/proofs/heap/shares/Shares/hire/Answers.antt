@@ -43,3 +43,8 @@ returns-clause-ok c =
       record { same = record { core = ap (λ x. x.core.value) same; round = ap (λ x. x.round) same }; from = c.place-from.ensures ∙ last.1; size = ap length alone },
       sym (ap length c.in-Some.ensures.items ∙ length-append front (h ∷ [])),
     )
+
+pub returns-clause-moved : goal.returns-clause-moved
+returns-clause-moved c =
+    let alone : c.push.new.self.items ≡ c.in-Some.helper ∷ [] = c.in-Ok.ensures.items ∙ ap (λ (l : List Helper). l ++ c.in-Some.helper ∷ []) c.in_ok-crew.ensures.items in
+    rw (← c.self.view_is) (c.in-Some.ensures.items ∙ ap (λ (l : List Helper). c.pop.new.self.items ++ l) (sym alone))
