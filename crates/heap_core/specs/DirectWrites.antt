@@ -117,7 +117,7 @@ WritesAreVisits = (old new : CoreContents) (slot : ℕ) → IsWholeCore old → 
 pub record TellsWritten (address : ℕ) (old new : CoreContents) : Type 0 where
   pub alone : new ≡ with_memory old old.store.words new.cycle.marker.dirty
   pub dirty_len : length new.cycle.marker.dirty ≡ length old.cycle.marker.dirty
-  pub dirty : (p : ℕ) → Has new.cycle.marker.dirty p → Has old.cycle.marker.dirty p ⊎ (p ≡ page_of address)
+  pub dirty : (p : ℕ) → Has new.cycle.marker.dirty p → Has old.cycle.marker.dirty p ⊎ ((FIRST_ADDRESS ≤ address) × (p ≡ page_of address))
   pub stays_dirty : StaysDirty old.cycle.marker new.cycle.marker
   pub written : FIRST_ADDRESS ≤ address → page_of address < length old.store.states → Has new.cycle.marker.dirty (page_of address)
   pub stands : (s : Heap) → StandsFor old s → StandsFor new s
