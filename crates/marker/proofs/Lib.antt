@@ -11,6 +11,7 @@ pub mod Dropping
 pub mod Settling
 pub mod Picking
 pub mod Turning
+pub mod Stacks
 pub mod Reading
 pub mod Taking
 pub mod Wholes

@@ -6,7 +6,7 @@ use Rattle.block_map.specs.declared.found.Found.{Found}
 use Rattle.marker.specs.declared.entry.Entry.{Entry}
 use Rattle.marker.specs.Marking.{Marking, IsConsistent, with_stack}
 use Rattle.marker.specs.Work.{left, cost}
-use Rattle.marker.specs.Entries.{AreUnreadFrom, Turns}
+use Rattle.marker.specs.Entries.{AreSwapped, AreUnreadFrom, Turns}
 use Rattle.marker.proofs.Dropping.{Keeps}
 use Rattle.marker.proofs.Known.{from_first, from_push}
 
@@ -35,27 +35,23 @@ consistent_turned m es c p = record {
   unread = λ e h. c.unread e (Contains-permutation es m.stack e (IsPermutation-sym m.stack es p) h);
 }
 
--- two are taken off and put back the other way round
-module _ (old a s b new : List Entry) (top second : Entry) (x : old ≡ a ++ top ∷ []) (y : a ≡ s ++ second ∷ []) (z : b ≡ s ++ top ∷ []) (w : new ≡ b ++ second ∷ []) where
-  were : old ≡ s ++ second ∷ top ∷ []
-  were = x ∙ ap (λ l. l ++ top ∷ []) y ∙ append_assoc s (second ∷ []) (top ∷ [])
-
-  are : new ≡ s ++ top ∷ second ∷ []
-  are = w ∙ ap (λ l. l ++ second ∷ []) z ∙ append_assoc s (top ∷ []) (second ∷ [])
-
+-- the two on top change places
+module _ (old new : List Entry) (x : AreSwapped old new) where
   pub second_moves : IsPermutation old new
   second_moves =
-      subst (λ l. IsPermutation l new) (sym were)
-      (subst (IsPermutation (s ++ second ∷ top ∷ [])) (sym are) (IsPermutation-append_right s (second ∷ top ∷ []) (top ∷ second ∷ []) (IsPermutation-append_comm (second ∷ []) (top ∷ []))))
+      subst (λ l. IsPermutation l new) (sym (x.was ∙ append_assoc x.below (x.second ∷ []) (x.top ∷ [])))
+      (subst (IsPermutation (x.below ++ x.second ∷ x.top ∷ [])) (sym (x.are ∙ append_assoc x.below (x.top ∷ []) (x.second ∷ [])))
+      (IsPermutation-append_right x.below (x.second ∷ x.top ∷ []) (x.top ∷ x.second ∷ []) (IsPermutation-append_comm (x.second ∷ []) (x.top ∷ []))))
 
   -- those that were known are known, if both were
   pub second_known : (found : ℕ → Option Found) (m : Marking) (n : ℕ) → n + 1 < length old → AreUnreadFrom found m n old → AreUnreadFrom found m n new
   second_known found m n low k =
+      let s = x.below in let top = x.top in let second = x.second in
+      let a = s ++ second ∷ [] in
       let l = length_push a top in let j = length_push s second in
-      let size : length old ≡ length s + 2 = (let p : length old ≡ length (a ++ top ∷ []) = ap length x in let q : length a ≡ length (s ++ second ∷ []) = ap length y in omega arith) in
-      let first = from_first found m n a (top ∷ []) (subst (AreUnreadFrom found m n) x k) in
-      let t = k.each (length s + 1) top (omega arith) (omega arith) (ap (λ es. get_or es (length s + 1) top) x ∙ get_or_push a top top (length s + 1) (let q : length a ≡ length (s ++ second ∷ []) = ap length y in omega arith)) in
-      let u = first.each (length s) second (omega arith) (let q : length a ≡ length (s ++ second ∷ []) = ap length y in omega arith) (ap (λ es. get_or es (length s) second) y ∙ get_or_push s second second (length s) refl) in
-      let rest = from_first found m n s (second ∷ []) (subst (AreUnreadFrom found m n) y first) in
-      let with_top = subst (AreUnreadFrom found m n) (sym z) (from_push found m n s top rest t) in
-      subst (AreUnreadFrom found m n) (sym w) (from_push found m n b second with_top u)
+      let size : length old ≡ length s + 2 = (let p : length old ≡ length (a ++ top ∷ []) = ap length x.was in omega arith) in
+      let first = from_first found m n a (top ∷ []) (subst (AreUnreadFrom found m n) x.was k) in
+      let t = k.each (length s + 1) top (omega arith) (omega arith) (ap (λ es. get_or es (length s + 1) top) x.was ∙ get_or_push a top top (length s + 1) (omega arith)) in
+      let u = first.each (length s) second (omega arith) (omega arith) (get_or_push s second second (length s) refl) in
+      let rest = from_first found m n s (second ∷ []) first in
+      subst (AreUnreadFrom found m n) (sym x.are) (from_push found m n (s ++ top ∷ []) second (from_push found m n s top rest t) u)

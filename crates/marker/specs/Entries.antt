@@ -54,6 +54,14 @@ pub record IsTurned (old new : Marking) : Type 0 where
   pub new_is : new ≡ with_stack old new.stack
   pub moves : IsPermutation old.stack new.stack
 
+-- the two entries on top of a stack have changed places
+pub record AreSwapped (old new : List Entry) : Type 0 where
+  pub below : List Entry
+  pub second : Entry
+  pub top : Entry
+  pub was : old ≡ (below ++ second ∷ []) ++ top ∷ []
+  pub are : new ≡ (below ++ top ∷ []) ++ second ∷ []
+
 -- An entry of the stack, wherever it stands there, is the one that is being read now. The one before it had no word left, and is dropped.
 pub record Picks (found : ℕ → Option Found) (old new : Marking) : Type 0 where
   pub lower : List Entry

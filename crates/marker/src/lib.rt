@@ -19,6 +19,7 @@ mod retrace;
 mod run;
 mod sharing;
 mod spread;
+mod stack;
 mod step;
 mod target;
 mod together;

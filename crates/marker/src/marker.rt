@@ -12,18 +12,15 @@ ghost use Rattle.marker.specs.Invariant.{DirtyPageInvariant, CarriedPageInvarian
 ghost use Rattle.marker.specs.Mutations.{BeginsPartial};
 
 use crate::entry::Entry;
-use arrayvec::ArrayVec;
+use crate::stack::MarkStack;
 use block_map::BlockMap;
 use dirty_pages::DirtyPages;
 use mark_bits::Marks;
 use pages::is_page_count;
 use std::alloc::Global;
 use std::marker::Model;
-use words::limits::{MARK_STACK_ENTRIES, PAGE_BYTES};
+use words::limits::PAGE_BYTES;
 use words::{BitRow, OpenError, PageNo, granule_of};
-
-// The entries of the mark stack.
-pub(crate) const ENTRIES: usize = MARK_STACK_ENTRIES as usize;
 
 /// Marks, dirty pages and the objects to be read, as one value.
 #[derive(Drop)]
@@ -32,7 +29,7 @@ pub struct Marker {
     pub(crate) dirty: DirtyPages,
     pub(crate) carried: DirtyPages,
     pub(crate) current: Option<Entry>,
-    pub(crate) stack: ArrayVec<Entry, ENTRIES>,
+    pub(crate) stack: MarkStack,
 }
 
 impl Model for Marker {
@@ -40,9 +37,9 @@ impl Model for Marker {
 
     ghost Value = { Marking };
 
-    ghost view = { λ m. record { marks = m.marks; dirty = m.dirty; carried = m.carried; current = m.current; stack = m.stack.items } };
+    ghost view = { λ m. record { marks = m.marks; dirty = m.dirty; carried = m.carried; current = m.current; stack = m.stack } };
 
-    ghost invariant = { λ m. IsConsistent (record { marks = m.marks; dirty = m.dirty; carried = m.carried; current = m.current; stack = m.stack.items }) };
+    ghost invariant = { λ m. IsConsistent (record { marks = m.marks; dirty = m.dirty; carried = m.carried; current = m.current; stack = m.stack }) };
 }
 
 // The bytes of a heap.
@@ -70,7 +67,7 @@ impl Marker {
             dirty,
             carried,
             current: None,
-            stack: ArrayVec::new(),
+            stack: MarkStack::new(),
         })
     }
 

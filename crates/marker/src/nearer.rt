@@ -1,7 +1,7 @@
 //! Which of two objects is read first. Where an object led to several, the second from the top of the stack comes before the one on
 //! top if it lies nearer to that object. So a tree is read in the order of memory, whether it was made from its top or from its
 //! leaves.
-ghost use Rattle.std.specs.Prelude.{ℕ, ◌+◌, ◌<◌, Option, length};
+ghost use Rattle.std.specs.Prelude.{ℕ, ◌+◌, ◌<◌, ◌≤◌, Option, length};
 ghost use Rattle.block_map.specs.declared.found.Found.{Found};
 ghost use Rattle.marker.specs.Entries.{AreUnreadFrom, IsTurned};
 
@@ -11,18 +11,11 @@ impl Marker {
     // Brings the second entry from the top onto the top.
     #[inline]
     fn bring_second(&mut self)
+        requires { 2 ≤ length self.old.stack }
         ensures turned { IsTurned self.old self.new }
         ensures known { (found : ℕ → Option Found) (n : ℕ) → n + 1 < length self.old.stack → AreUnreadFrom found self.old n self.old.stack → AreUnreadFrom found self.new n self.new.stack }
     {
-        let Some(top) = self.stack.pop() else {
-            return;
-        };
-        let Some(second) = self.stack.pop() else {
-            self.stack.push(top);
-            return;
-        };
-        self.stack.push(top);
-        self.stack.push(second);
+        self.stack.swap_two();
     }
 
     // The object with this base was read, and so many entries waited before, its own among them. Of those to which it led the second

@@ -11,7 +11,8 @@ ghost use Rattle.marker.specs.Beside.{MarksRow};
 ghost use Rattle.marker.specs.Entries.{IsOnTop, AreUnreadFrom, TakesWhole};
 ghost use Rattle.marker.specs.Begun.{IsBegun, AreBegun, entry_begun, entries_begun, words_begun};
 
-use crate::marker::{ENTRIES, Marker};
+use crate::marker::Marker;
+use crate::stack::ENTRIES;
 use arrayvec::ArrayVec;
 use block_map::{BlockMap, Found};
 use pages::Reader;

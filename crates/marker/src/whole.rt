@@ -9,7 +9,8 @@ ghost use Rattle.marker.specs.Marking.{word_address, AreMarksObjects};
 ghost use Rattle.marker.specs.declared.entry.Entry.{Entry};
 ghost use Rattle.marker.specs.Entries.{IsOnTop, AreUnreadFrom, TakesWhole};
 
-use crate::marker::{ENTRIES, Marker};
+use crate::marker::Marker;
+use crate::stack::ENTRIES;
 use crate::together::TOGETHER;
 use block_map::{BlockMap, Found};
 use pages::Reader;

@@ -6,6 +6,6 @@ use Rattle.marker.proofs.marker.Marker.await_words.Goals as goal
 
 pub invariant_of-self-else-is_full : goal.invariant_of-self-else-is_full
 invariant_of-self-else-is_full c =
-    let apart : length c.self.inside.stack.items ≢ MARK_STACK_ENTRIES = λ e. false≢true (sym c.if-is_full.false ∙ c.is_full.ensures.value ∙ eq-eqb _ _ e) in
+    let apart : length c.self.inside.stack ≢ MARK_STACK_ENTRIES = λ e. false≢true (sym c.if-is_full.false ∙ c.is_full.ensures.value ∙ eq-eqb _ _ e) in
     let fits = c.is_full.ensures.fits in
     consistent_push _ _ _ c.self.invariant refl (omega arith) refl refl refl c.push.ensures.items

@@ -5,29 +5,25 @@ use Rattle.marker.specs.Entries.{AreUnreadFrom, IsTurned}
 use Rattle.marker.proofs.Known.{from_more}
 use Rattle.marker.proofs.Turning.{consistent_turned, second_known, second_moves}
 use Rattle.marker.proofs.marker.Marker.bring_second.Goals as goal
-use Rattle.marker.proofs.marker.Marker.bring_second.Goals.{After-push-3}
+use Rattle.marker.proofs.marker.Marker.bring_second.Goals.{After-swap_two}
 
 -- the marker before
-abbrev was : After-push-3 → Marking
-was c = record { marks = c.self.inside.marks; dirty = c.self.inside.dirty; carried = c.self.inside.carried; current = c.self.inside.current; stack = c.self.inside.stack.items }
+abbrev was : After-swap_two → Marking
+was c = record { marks = c.self.inside.marks; dirty = c.self.inside.dirty; carried = c.self.inside.carried; current = c.self.inside.current; stack = c.self.inside.stack }
 
-moves : (c : After-push-3) → IsPermutation c.self.inside.stack.items c.push-3.new.self.items
-moves c =
-    second_moves c.self.inside.stack.items c.pop.new.self.items c.pop-2.new.self.items c.push-2.new.self.items c.push-3.new.self.items c.in-Some.top c.in-Some-pop.second
-    c.in-Some.ensures.items c.in-Some-pop.ensures.items c.push-2.ensures.items c.push-3.ensures.items
+moves : (c : After-swap_two) → IsPermutation c.self.inside.stack c.swap_two.new.self
+moves c = second_moves c.self.inside.stack c.swap_two.new.self c.swap_two.ensures
 
-pub invariant_of-self-2 : goal.invariant_of-self-2
-invariant_of-self-2 c = consistent_turned (was c) c.push-3.new.self.items c.self.invariant (moves c)
+pub invariant_of-self : goal.invariant_of-self
+invariant_of-self c = consistent_turned (was c) c.swap_two.new.self c.self.invariant (moves c)
 
 pub returns-clause-turned : goal.returns-clause-turned
 returns-clause-turned c =
-    let es : List Entry = c.push-3.new.self.items in
+    let es : List Entry = c.swap_two.new.self in
     subst (λ (m : Marking). IsTurned m (with_stack (was c) es)) c.self.view_is (record { new_is = refl; moves = moves c })
 
 pub returns-clause-known : goal.returns-clause-known
 returns-clause-known c found n =
-    let es : List Entry = c.push-3.new.self.items in
+    let es : List Entry = c.swap_two.new.self in
     subst (λ (m : Marking). n + 1 < length m.stack → AreUnreadFrom found m n m.stack → AreUnreadFrom found (with_stack (was c) es) n es) c.self.view_is
-    (λ low known. from_more found (was c) (with_stack (was c) es) n es (λ j h. h)
-    (second_known c.self.inside.stack.items c.pop.new.self.items c.pop-2.new.self.items c.push-2.new.self.items es c.in-Some.top c.in-Some-pop.second
-    c.in-Some.ensures.items c.in-Some-pop.ensures.items c.push-2.ensures.items c.push-3.ensures.items found (was c) n low known))
+    (λ low known. from_more found (was c) (with_stack (was c) es) n es (λ j h. h) (second_known c.self.inside.stack es c.swap_two.ensures found (was c) n low known))
