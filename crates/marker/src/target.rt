@@ -1,6 +1,6 @@
 //! The marking of the object that one word points into.
 ghost use Rattle.std.specs.Prelude.{◌≡◌, ℕ, ◌+◌, ◌*◌, ◌%◌, ◌<◌, ◌≤◌, [], ◌∷◌, true, length, Option, Some};
-ghost use Rattle.words.specs.declared.limits.TheConstants.{FIRST_ADDRESS, GRANULE_BYTES, PAGE_BYTES};
+ghost use Rattle.words.specs.declared.limits.TheConstants.{FIRST_ADDRESS, GRANULE_BYTES, MARK_STACK_ENTRIES, PAGE_BYTES};
 ghost use Rattle.words.specs.Bits.{Has};
 ghost use Rattle.words.specs.Layout.{granule};
 ghost use Rattle.block_map.specs.declared.found.Found.{Found};
@@ -12,6 +12,7 @@ ghost use Rattle.marker.specs.Growth.{Awaits, MarksWord, TellsStray};
 use crate::entry::Entry;
 use crate::marker::Marker;
 use crate::spread::dirty_object;
+use crate::stack::ENTRIES;
 use block_map::{BlockMap, Found};
 use words::limits::{FIRST_ADDRESS, GRANULE_BYTES};
 use words::{Kind, granule_of};
@@ -43,7 +44,8 @@ impl Marker {
 
     // Marks the object that a word points into, if it points into one. Most words point into none, or into objects that are
     // marked, so that the loop over words is to hold the tests for these and not this. Answers whether it points into none. Most
-    // pages are cut, so that what is on others is looked up elsewhere.
+    // pages are cut, so that what is on others is looked up elsewhere, as is what finds the stack full: with no call but the last
+    // one, nothing is kept on the machine's stack here.
     #[inline(never)]
     fn mark_target(&mut self, map: &BlockMap, word: u64) -> bool
         requires pages { length self.old.dirty ≡ length map.now }
@@ -55,13 +57,16 @@ impl Marker {
         ensures objects { AreMarksObjects (found_in map.now) self.new }
     {
         self.laws();
+        if self.depth() == ENTRIES {
+            return self.mark_elsewhere(map, word);
+        }
         let Some(answer) = map.find_in_cell(word) else {
             return self.mark_elsewhere(map, word);
         };
         let Some(found) = answer else {
             return true;
         };
-        self.mark_found(found);
+        self.mark_with_room(found);
         false
     }
 
@@ -91,6 +96,21 @@ impl Marker {
         false
     }
 
+    // Marks an object that a word points into, where the stack has room for it.
+    #[inline]
+    fn mark_with_room(&mut self, found: Found)
+        requires placed { IsPlaced (length self.old.dirty) found }
+        requires room { length self.old.stack < MARK_STACK_ENTRIES }
+        ensures { (objects : ℕ → Option Found) (word : ℕ) → objects word ≡ Some found → MarksWord objects word self.old self.new }
+    {
+        let granule = granule_of(found.base);
+        if self.marks.is_set(granule) {
+            return;
+        }
+        self.marks.set(granule);
+        self.await_with_room(found);
+    }
+
     // Marks an object that a word points into.
     #[inline]
     fn mark_found(&mut self, found: Found)
@@ -114,16 +134,28 @@ impl Marker {
         ensures current { self.new.current ≡ self.old.current }
         ensures awaits { Awaits found self.old self.new }
     {
+        if !self.stack.is_full() {
+            self.await_with_room(found);
+        } else if found.kind == Kind::Normal {
+            dirty_object(&mut self.dirty, found);
+        }
+    }
+
+    // The same, where the stack has room.
+    #[inline]
+    fn await_with_room(&mut self, found: Found)
+        requires { length self.old.stack < MARK_STACK_ENTRIES }
+        ensures marks { self.new.marks ≡ self.old.marks }
+        ensures carried { self.new.carried ≡ self.old.carried }
+        ensures current { self.new.current ≡ self.old.current }
+        ensures awaits { Awaits found self.old self.new }
+    {
         if found.kind == Kind::PointerFree {
             return;
         }
-        if self.stack.is_full() {
-            dirty_object(&mut self.dirty, found);
-        } else {
-            self.stack.push(Entry {
-                base: found.base,
-                next: 0,
-            });
-        }
+        self.stack.push(Entry {
+            base: found.base,
+            next: 0,
+        });
     }
 }
