@@ -1,5 +1,5 @@
 -- Objects that are read whole, whichever entry without a word left is the one that is being read.
-use Rattle.std.proofs.Common.{◌≡◌, ℕ, ◌+◌, ◌*◌, List, length, Option, Some, sym, ap, subst, arith}
+use Rattle.std.proofs.Common.{◌≡◌, ℕ, ◌+◌, ◌-◌, ◌*◌, List, length, Option, Some, sym, ap, subst, arith}
 use Rattle.std.proofs.lemmas.Option.{same_Some}
 use Rattle.words.specs.declared.limits.TheConstants.{PAGE_GRANULES}
 use Rattle.block_map.specs.declared.found.Found.{Found}
@@ -20,6 +20,9 @@ spent_outside pages found map m f is base normal marked = let above = (map.place
 module _ (found : ℕ → Option Found) (moments : List (List ℕ)) where
   pub whole_none : (m : Marking) → TakesWhole found moments m 0 m
   whole_none m e s = (e, s, nothing)
+
+  pub whole_less : (m : Marking) (left : ℕ) → TakesWhole found moments m (left - left) m
+  whole_less m left = subst (λ (n : ℕ). TakesWhole found moments m n m) (let none : 0 ≡ left - left = omega arith in none) (whole_none m)
 
   pub whole_trans : (a b c : Marking) (n k : ℕ) → TakesWhole found moments a n b → TakesWhole found moments b k c → TakesWhole found moments a (n + k) c
   whole_trans a b c n k x y e s =

@@ -1,6 +1,6 @@
 //! Objects that are read whole, one after the other. Most are small and their entries were pushed in the same step, so that
 //! a step spends its time here.
-ghost use Rattle.std.specs.Prelude.{◌≡◌, ℕ, ◌+◌, ◌*◌, ◌<◌, ◌≤◌, ◌++◌, ◌∷◌, [], List, length, true, IfSome};
+ghost use Rattle.std.specs.Prelude.{◌≡◌, ℕ, ◌+◌, ◌-◌, ◌*◌, ◌<◌, ◌≤◌, ◌++◌, ◌∷◌, [], List, length, true, IfSome};
 ghost use Rattle.words.specs.declared.limits.TheConstants.{FIRST_ADDRESS, MARK_STACK_ENTRIES, MOST_PAGES, PAGE_BYTES, PAGE_WORDS};
 ghost use Rattle.words.specs.Layout.{page_of};
 ghost use Rattle.block_map.specs.Objects.{IsPlaced, LiesOnPage};
@@ -23,15 +23,17 @@ const WIDE: usize = 2 * TOGETHER;
 
 const CROWDED: usize = ENTRIES - 4 * TOGETHER;
 
-// Whether the words of an object are at most so many, and stand on one page.
+// Whether the words of an object are at most so many, and stand on one page. Each object has words: a compiler learns it here, by
+// a test that it needs anyway, and leaves out two behind it.
 #[inline]
 fn is_whole(found: Found, most: u64) -> bool
     requires above { FIRST_ADDRESS ≤ found.base }
     requires on_page { LiesOnPage found }
+    ensures some { result ≡ true → 0 < found.len }
     ensures most { result ≡ true → found.len ≤ most }
     ensures one_page { result ≡ true → (i : ℕ) → 0 ≤ i → i < 0 + found.len → page_of (word_address found i) ≡ page_of (word_address found 0) }
 {
-    u64::from(found.len) <= most.min(PAGE_WORDS)
+    found.len > 0 && found.len <= PAGE_WORDS as u32 && u64::from(found.len) <= most
 }
 
 impl Marker {
@@ -89,8 +91,8 @@ impl Marker {
         self.mark_words(map, heap_bytes, reader, found, 0, u64::from(found.len));
     }
 
-    // Reads the object of the entry on top of the stack whole, if that entry is known to have words and it has so many at most. Answers
-    // how many.
+    // Reads the object of the entry on top of the stack whole, if that entry is known to have words and it has as many at most as are
+    // left to read. Answers whether it did, which a compiler then knows without a look at the number.
     #[inline]
     fn read_top(
         &mut self,
@@ -98,37 +100,39 @@ impl Marker {
         heap_bytes: u64,
         reader: &mut Reader,
         known: usize,
-        most: u64,
-    ) -> u64
+        left: &mut u64,
+    ) -> bool
         requires pages { length self.old.dirty ≡ length map.now }
         requires objects { AreMarksObjects (found_in map.now) self.old }
         requires lawful { IsLawful map.now }
         requires bytes { heap_bytes ≡ PAGE_BYTES * length map.now }
         requires memory { length reader.old.words ≡ PAGE_WORDS * length map.now }
         requires known { AreUnreadFrom (found_in map.now) self.old known self.old.stack }
-        ensures takes { TakesWhole (found_in map.now) reader.old.moments self.old result self.new }
+        ensures takes { TakesWhole (found_in map.now) reader.old.moments self.old (left.old - left.new) self.new }
         ensures known { AreUnreadFrom (found_in map.now) self.new known self.new.stack }
-        ensures most { result ≤ most }
+        ensures less { left.new ≤ left.old }
+        ensures some { result ≡ true → left.new < left.old }
         ensures words { reader.new.words ≡ reader.old.words }
         ensures moments { reader.new.moments ≡ reader.old.moments }
-        ensures reads { reader.new.reads ≡ reader.old.reads + result }
+        ensures reads { reader.new.reads + left.new ≡ reader.old.reads + left.old }
         ensures objects { AreMarksObjects (found_in map.now) self.new }
     {
         map.laws();
         let Some(found) = self.top(map, known) else {
-            return 0;
+            return false;
         };
-        if !is_whole(found, most) {
-            return 0;
+        if !is_whole(found, *left) {
+            return false;
         }
         let depth = self.depth();
         self.read_whole(map, heap_bytes, reader, found);
         self.bring_nearer(depth, found.base);
-        u64::from(found.len)
+        *left -= u64::from(found.len);
+        true
     }
 
     // Reads some objects whole: several together where so many wait and there is room for what they may lead to, and else the
-    // one on top of the stack. Answers how many words, which is 0 if there is none that can be read at once.
+    // one on top of the stack. Answers whether there was one that can be read at once.
     #[inline]
     fn read_some(
         &mut self,
@@ -136,8 +140,8 @@ impl Marker {
         heap_bytes: u64,
         reader: &mut Reader,
         known: usize,
-        most: u64,
-    ) -> u64
+        left: &mut u64,
+    ) -> bool
         requires pages { length self.old.dirty ≡ length map.now }
         requires objects { AreMarksObjects (found_in map.now) self.old }
         requires lawful { IsLawful map.now }
@@ -145,20 +149,23 @@ impl Marker {
         requires few { known ≤ MARK_STACK_ENTRIES }
         requires memory { length reader.old.words ≡ PAGE_WORDS * length map.now }
         requires known { AreUnreadFrom (found_in map.now) self.old known self.old.stack }
-        ensures takes { TakesWhole (found_in map.now) reader.old.moments self.old result self.new }
+        ensures takes { TakesWhole (found_in map.now) reader.old.moments self.old (left.old - left.new) self.new }
         ensures known { AreUnreadFrom (found_in map.now) self.new known self.new.stack }
-        ensures most { result ≤ most }
+        ensures less { left.new ≤ left.old }
+        ensures some { result ≡ true → left.new < left.old }
         ensures words { reader.new.words ≡ reader.old.words }
         ensures moments { reader.new.moments ≡ reader.old.moments }
-        ensures reads { reader.new.reads ≡ reader.old.reads + result }
+        ensures reads { reader.new.reads + left.new ≡ reader.old.reads + left.old }
         ensures objects { AreMarksObjects (found_in map.now) self.new }
     {
         let wide = known + WIDE;
         // From `wide` to `CROWDED`, by one test.
         if self.depth().wrapping_sub(wide) <= CROWDED.saturating_sub(wide) {
-            self.read_together(map, heap_bytes, reader, known, most)
+            let read = self.read_together(map, heap_bytes, reader, known, *left);
+            *left -= read;
+            read > 0
         } else {
-            self.read_top(map, heap_bytes, reader, known, most)
+            self.read_top(map, heap_bytes, reader, known, left)
         }
     }
 
@@ -191,12 +198,7 @@ impl Marker {
         self.laws();
         map.laws();
         let mut left = most;
-        loop {
-            let read = self.read_some(map, heap_bytes, reader, known, left);
-            if read == 0 {
-                return most - left;
-            }
-            left -= read;
-        }
+        while self.read_some(map, heap_bytes, reader, known, &mut left) {}
+        most - left
     }
 }

@@ -1,16 +1,18 @@
-use Rattle.std.proofs.Common.{ℕ, subst, sym}
+use Rattle.std.proofs.Common.{◌≡◌, ◌-◌, ℕ, subst, arith}
 use Rattle.block_map.specs.FoundIn.{found_in}
 use Rattle.marker.specs.Entries.{TakesWhole}
-use Rattle.marker.proofs.Wholes.{whole_none, whole_turned}
+use Rattle.marker.proofs.Wholes.{whole_less, whole_turned}
 use Rattle.marker.proofs.marker.Marker.read_top.Goals as goal
 
 pub returns-in_default-clause-takes : goal.returns-in_default-clause-takes
-returns-in_default-clause-takes c = whole_none (found_in c.args.map.now) c.args.reader.now.moments c.args.self.now
+returns-in_default-clause-takes c = whole_less (found_in c.args.map.now) c.args.reader.now.moments c.args.self.now _
 
 pub returns-then-not-is_whole-clause-takes : goal.returns-then-not-is_whole-clause-takes
-returns-then-not-is_whole-clause-takes c = whole_none (found_in c.args.map.now) c.args.reader.now.moments c.args.self.now
+returns-then-not-is_whole-clause-takes c = whole_less (found_in c.args.map.now) c.args.reader.now.moments c.args.self.now _
 
 pub returns-clause-takes : goal.returns-clause-takes
 returns-clause-takes c =
-    subst (λ (n : ℕ). TakesWhole (found_in c.args.map.now) c.args.reader.now.moments c.args.self.now n c.bring_nearer.new.self) (sym c.from.ensures)
+    let len = c.from.ensures in
+    let most = c.is_whole.ensures.most c.if-not-is_whole.false in
+    subst (λ (n : ℕ). TakesWhole (found_in c.args.map.now) c.args.reader.now.moments c.args.self.now n c.bring_nearer.new.self) (let same : c.in-Some.found.len ≡ c.args.left.now - (c.args.left.now - c.from.result) = omega arith in same)
     (whole_turned (found_in c.args.map.now) c.args.reader.now.moments c.args.self.now c.read_whole.new.self c.bring_nearer.new.self c.in-Some.found.len c.read_whole.ensures.takes c.bring_nearer.ensures.turned)

@@ -4,8 +4,8 @@ use Rattle.marker.specs.Marking.{AreMarksObjects}
 use Rattle.marker.specs.Entries.{AreUnreadFrom, TakesWhole}
 use Rattle.marker.proofs.marker.Marker.read_wholes.Given as goal
 
-abbrev pub invariant-loop-heap_bytes : goal.invariant-loop-heap_bytes
-invariant-loop-heap_bytes l = record {
+abbrev pub invariant-loop : goal.invariant-loop
+invariant-loop l = record {
   takes : TakesWhole (found_in l.map) l.initial.reader.moments l.initial.self (l.most - l.left) l.self;
   known : AreUnreadFrom (found_in l.map) l.self l.known l.self.stack;
   pages : length l.self.dirty ≡ length l.map;
@@ -16,5 +16,5 @@ invariant-loop-heap_bytes l = record {
   objects : AreMarksObjects (found_in l.map) l.self;
 }
 
-abbrev pub decreases-loop-heap_bytes : goal.decreases-loop-heap_bytes
-decreases-loop-heap_bytes l = l.left
+abbrev pub decreases-loop : goal.decreases-loop
+decreases-loop l = l.left
