@@ -9,6 +9,7 @@
 #![tactic(auto)]
 
 mod count;
+mod current;
 mod entry;
 mod marker;
 mod mutators;

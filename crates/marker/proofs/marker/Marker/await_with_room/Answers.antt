@@ -1,4 +1,4 @@
-use Rattle.std.proofs.Common.{refl, arith}
+use Rattle.std.proofs.Common.{refl}
 use Rattle.marker.proofs.MarkWord.{consistent_push}
 use Rattle.marker.proofs.marker.Marker.await_with_room.Goals as goal
 
