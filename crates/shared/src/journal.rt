@@ -1,5 +1,5 @@
 //! What is written down of a history while it grows: each event, as it joins the history, with what its reply leaves open.
-ghost use Rattle.std.specs.Prelude.{◌++◌, ◌∷◌, [], ◌≡◌, IfOk, map};
+ghost use Rattle.std.specs.Prelude.{◌++◌, ◌∷◌, [], ◌≡◌, true, IfOk, map};
 ghost use Rattle.history.specs.Histories.{event};
 ghost use Rattle.shared.specs.Journals.{made_of, is_kept, IsOf, TakesDown};
 
@@ -99,7 +99,8 @@ impl Entries {
 impl Journal {
     /// A journal of a history with no events, which is kept from then on.
     pub fn new(alloc: Global) -> Journal
-        ensures { IsOf result [] }
+        ensures events { IsOf result [] }
+        ensures kept { is_kept result ≡ true }
     {
         Journal::On(Entries::new(alloc))
     }
