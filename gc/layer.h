@@ -1,7 +1,7 @@
 // What the audited files of libmpgc know of each other. x86-64, Linux, the GNU C library. Trusted, and not proved.
 //
 // Below them stands the proved heap of mpheap_c, above them a C program that knows bdwgc's gc.h, and may do what it likes. The proofs hold
-// for the program as far as these files keep what mpheap.h asks of a caller. They alone could lose an object or break memory: 3,057 lines
+// for the program as far as these files keep what mpheap.h asks of a caller. They alone could lose an object or break memory: 3,103 lines
 // of code in this folder, without blank ones and comments. Why names/ and kernel/ can't is said in front.h. This is all that they owe, in
 // the order in which they are best read, and the head of each says by which lines it pays:
 //
@@ -67,15 +67,16 @@ struct thread {
     bool is_detached;                      // nobody will ask what it answers
     unsigned holders;                      // so many are asking for it
     unsigned goodbyes;
-    unsigned stop;                         // the last stop to which it has answered (world.c)
+    atomic_uint stop;                      // the last stop to which it has answered (world.c)
     const char *volatile top;              // while it is stopped, blocked or collects: what it had is from here to the bottom
     const char *volatile under;            // and, where `top` lies on a signal's stack: where that signal came
     const char *low, *bottom;              // its stack
     const char *alt_top;                   // the end of the signal's stack on which `top` lies, if it does
     char *pointer;                         // by which its thread-local data is found (locals.c)
     void ***keys;                          // what it has by pthread_setspecific
-    struct pages { size_t from, to; } pinned[PINS];  // pages that the kernel may write to for it
-    size_t pins;
+    struct pin { struct pages { size_t from, to; } pages; const char *frame; } pinned[PINS];  // that the kernel may write to, by whose call
+    volatile size_t pins;
+    volatile sig_atomic_t changes_pins;
     sigset_t signals;                      // that it blocks, once it runs
     void *(*start)(void *);
     void *data;                            // what it was given, until it runs, and what it answered, when it has ended

@@ -8,15 +8,35 @@
 // Counted under threads.
 #include "layer.h"
 #include "kernel/next.h"
+#include <errno.h>
 #include <sys/mman.h>
 #include <sys/syscall.h>
 #include <unistd.h>
 
-struct module_data { const char *at; void *whole; };
+struct module_data { const char *at; void *whole; };  // the last is null where it was there when the thread began
 
 enum { KEYS = 1024 };  // PTHREAD_KEYS_MAX
 
 static _Thread_local void **keys __attribute__((tls_model("initial-exec")));
+
+// By a call that answers EFAULT if not, and else EINVAL.
+static bool can_be_read(const char *at)
+{
+    enum { NO_WAY = -1, BYTES = 8 };
+    return syscall(SYS_rt_sigprocmask, NO_WAY, at, NULL, BYTES) == 0 || errno != EFAULT;
+}
+
+// What is there may be of an object that was unloaded, and shorter, since the thread hasn't looked again.
+static void scan_as_far_as_it_goes(const char *from, const char *to, void (*scan)(const char *from, const char *to))
+{
+    int kept = errno;
+    while (from < to && can_be_read(from)) {
+        const char *end = (const char *)(((uintptr_t)from & ~(PAGE - 1)) + PAGE);
+        scan(from, end < to ? end : to);
+        from = end;
+    }
+    errno = kept;
+}
 
 void mpgc_scan_locals(const struct thread *thread, size_t module, size_t bytes, void (*scan)(const char *from, const char *to))
 {
@@ -24,7 +44,10 @@ void mpgc_scan_locals(const struct thread *thread, size_t module, size_t bytes, 
     if (module > (size_t)(uintptr_t)vector[-1].at) return;  // loaded since this thread last looked
     const char *data = vector[module].at;
     if (!data || data == (const char *)-1) return;          // not there yet
-    scan(data, data + bytes);
+    if (vector[module].whole)
+        scan_as_far_as_it_goes(data, data + bytes, scan);
+    else
+        scan(data, data + bytes);
 }
 
 void mpgc_scan_keys(const struct thread *thread, void (*scan)(const char *from, const char *to))

@@ -265,8 +265,8 @@ static size_t each_pinned(void (*work)(size_t page))
 {
     size_t count = 0;
     for (const struct thread *one = mpgc.threads; one; one = one->next) {
-        for (const struct pages *range = one->pinned; range < one->pinned + one->pins; range++) {
-            for (size_t page = range->from; page < range->to; page++) {
+        for (const struct pin *pin = one->pinned; pin < one->pinned + one->pins; pin++) {
+            for (size_t page = pin->pages.from; page < pin->pages.to; page++) {
                 if (!is_open_ordinary(page)) continue;
                 if (work) work(page);
                 count++;
@@ -345,31 +345,59 @@ static void add_to_pins(const struct pages *pages, int count)
     for (size_t page = pages->from; page < pages->to; page++) mpgc.pins[page] = (uint16_t)(mpgc.pins[page] + count);
 }
 
-// Where there are too many, it writes as it would without: it may find a page closed.
-static void pin(size_t from, size_t to)
+// Where there are too many, or a handler came in the middle of a change, it writes as it would without: it may find a page closed. A page is
+// counted only while the thread has it: else a step of that handler might clean it, and nobody would tell it again.
+static void pin(size_t from, size_t to, const char *frame)
 {
-    if (mpgc_self->pins == PINS) return;
-    struct pages *pages = &mpgc_self->pinned[mpgc_self->pins++];
-    *pages = (struct pages){ from, to };
-    add_to_pins(pages, 1);
+    struct thread *self = mpgc_self;
+    if (self->changes_pins || self->pins == PINS) return;
+    self->changes_pins = 1;
+    struct pin *one = &self->pinned[self->pins];
+    *one = (struct pin){ { from, to }, frame };
+    atomic_signal_fence(memory_order_seq_cst);
+    self->pins++;
+    atomic_signal_fence(memory_order_seq_cst);
+    add_to_pins(&one->pages, 1);
+    atomic_signal_fence(memory_order_seq_cst);
+    self->changes_pins = 0;
 }
 
-// From now on the thread's pages are as others: open, told, and to be closed before they are read. The lock is held.
+// From now on the last one's pages are as others: open, told, and to be closed before they are read. The lock is held.
+static void drop_last_pin(struct thread *thread)
+{
+    const struct pages *pages = &thread->pinned[thread->pins - 1].pages;
+    thread->changes_pins = 1;
+    atomic_signal_fence(memory_order_seq_cst);
+    add_to_pins(pages, -1);
+    lower_to(pages->from);
+    atomic_signal_fence(memory_order_seq_cst);
+    thread->pins--;
+    thread->changes_pins = 0;
+}
+
 void mpgc_drop_pins(struct thread *thread)
 {
-    while (thread->pins > 0) {
-        const struct pages *pages = &thread->pinned[--thread->pins];
-        add_to_pins(pages, -1);
-        lower_to(pages->from);
-    }
+    while (thread->pins > 0) drop_last_pin(thread);
+}
+
+static bool is_on_own_stack(const char *frame) { return frame >= mpgc_self->low && frame < mpgc_self->bottom; }
+
+// A handler may make calls of its own in the middle of one: those end that lie no higher than the one with this frame.
+static bool has_over(const char *frame)
+{
+    if (mpgc_self->pins == 0) return false;
+    const char *last = mpgc_self->pinned[mpgc_self->pins - 1].frame;
+    bool is_own = is_on_own_stack(frame);
+    return is_on_own_stack(last) == is_own ? last <= frame : is_own;
 }
 
 void mpgc_wrote(void)
 {
-    if (!mpgc_self || mpgc_self->pins == 0) return;
+    const char *frame = __builtin_frame_address(0);
+    if (!mpgc_self || mpgc_self->changes_pins || !has_over(frame)) return;
     int kept = errno;
     mpgc_lock();
-    mpgc_drop_pins(mpgc_self);
+    while (has_over(frame)) drop_last_pin(mpgc_self);
     mpgc_unlock();
     errno = kept;
 }
@@ -385,6 +413,6 @@ void mpgc_will_write(const void *from, size_t bytes)
     if (after > mpgc.size) after = mpgc.size;
     for (size_t page = first; page < after; page++)
         if (mpgc.is_closed[page]) mpgc_let_write(page);
-    if (mpgc_self && first < after) pin(first, after);
+    if (mpgc_self && first < after) pin(first, after, __builtin_frame_address(0));
     mpgc_unlock();
 }

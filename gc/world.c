@@ -43,7 +43,8 @@ static long wait_while(_Atomic uint32_t *word, uint32_t value, const struct time
 
 static void wake(_Atomic uint32_t *word) { syscall(SYS_futex, word, FUTEX_WAKE_PRIVATE, INT32_MAX, NULL, NULL, 0); }
 
-// This thread, of which all registers lie above this frame, waits until the world goes on. Signals are blocked.
+// This thread, of which all registers lie above this frame, waits until the world goes on. Signals are blocked. Whether it is suspended is
+// asked in one turn, since it becomes so in a stop; and if it is resumed in another one it waits for that one's end.
 __attribute__((noinline)) static void wait_here(struct thread *self)
 {
     const char *top = __builtin_frame_address(0);
@@ -54,7 +55,7 @@ __attribute__((noinline)) static void wait_here(struct thread *self)
     self->top = top;
     answers++;
     wake(&answers);
-    for (uint32_t seen = turn; seen == now || self->is_suspended; seen = turn) wait_while(&turn, seen, NULL);
+    for (uint32_t seen = turn; self->is_suspended || seen == self->stop || seen != turn; seen = turn) wait_while(&turn, seen, NULL);
     self->top = outer;
 }
 
@@ -217,8 +218,12 @@ static void suspend(struct thread *one)
     mpgc_restore_signals(&old);
 }
 
-static void *wait_blocked(void *data)
+// No stop waits for this thread any more, which is blocked.
+static void *suspend_this(void *data)
 {
+    mpgc_lock();
+    mpgc_self->is_suspended = true;
+    mpgc_unlock();
     mpgc_wait_suspended();
     return data;
 }
@@ -228,12 +233,10 @@ void GC_suspend_thread(pthread_t thread)
 {
     mpgc_lock();
     struct thread *one = mpgc_record_of(thread);
-    if (one == mpgc_self && one)
-        one->is_suspended = true;
-    else if (one && one->state != ENDED)
-        suspend(one);
+    bool is_this = one && one == mpgc_self;
+    if (one && !is_this && one->state != ENDED) suspend(one);
     mpgc_unlock();
-    if (one && one == mpgc_self) (void)GC_do_blocking(wait_blocked, NULL);
+    if (is_this) (void)GC_do_blocking(suspend_this, NULL);
 }
 
 SHOWN void GC_resume_thread(pthread_t thread);
@@ -241,8 +244,10 @@ void GC_resume_thread(pthread_t thread)
 {
     mpgc_lock();
     struct thread *one = mpgc_record_of(thread);
+    bool is_stop = turn % 2 == 1;  // then it goes on with the others
+    if (one && is_stop) one->stop = turn;
     if (one) one->is_suspended = false;
-    turn += 2;  // so that nobody sleeps who has seen the old one
+    if (!is_stop) turn += 2;  // so that nobody sleeps who has seen the old one
     wake(&turn);
     mpgc_unlock();
 }

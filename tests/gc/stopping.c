@@ -1,5 +1,5 @@
 /* What makes it hard to stop threads: that they are cancelled in a call of the system, make requests as the last they do, are suspended before
- * they run or while the user changes, made with every signal blocked, or have said that they go; that the whole process is stopped; and faults
+ * they run, by themselves or while the user changes, made with every signal blocked, or have said that they go; that the whole process is stopped; and faults
  * of the program's own making, beside the barrier's. */
 #define _GNU_SOURCE
 #define GC_THREADS
@@ -257,6 +257,82 @@ static void suspended(void)
     CHECK(ran == 0 && steps == 200 * 1000);
 }
 
+/* A thread suspends itself, and is resumed, and another one collects between any two of the first instructions of that (x86-64 traps behind
+ * each), but for those under the lock, where nobody waits for that for long. */
+#define TRAPS(operation, bits) __asm__ volatile("pushfq; " operation " %0, (%%rsp); popfq" : : "i"(bits) : "memory", "cc")
+enum { TRAP_FLAG = 0x100 };
+extern int GC_is_thread_suspended(pthread_t thread);
+static _Atomic int is_asked;
+static void ask_for_a_collection(int number)
+{
+    enum { FIRST = 1500 };
+    static int moments;
+    (void)number;
+    if (++moments > FIRST) return;
+    is_asked = 1;
+    for (int k = 0; is_asked && k < 50; k++) rest(0.0001);
+}
+static void *suspend_itself(void *data)
+{
+    GC_suspend_thread(pthread_self());  /* the loader has found all that this calls */
+    TRAPS("orq", TRAP_FLAG);
+    GC_suspend_thread(pthread_self());
+    TRAPS("andq", ~TRAP_FLAG);
+    is_over = 1;
+    return data;
+}
+static int suspends_itself(void)
+{
+    pthread_t thread;
+    void *answer = NULL;
+    alarm(100);
+    is_over = steps = 0;
+    sigaction(SIGTRAP, &(struct sigaction){ .sa_handler = ask_for_a_collection }, NULL);
+    pthread_create(&thread, NULL, suspend_itself, &steps);
+    for (int idle = 0; !is_over; idle++, rest(0.00005)) {
+        if (!is_asked && idle > 200 && GC_is_thread_suspended(thread)) GC_resume_thread(thread);
+        if (!is_asked) continue;
+        GC_gcollect();
+        is_asked = idle = 0;
+        steps++;
+    }
+    return pthread_join(thread, &answer) == 0 && answer == &steps && steps > 20 ? 0 : 1;
+}
+
+/* One that is resumed while the world is stopped goes on when the world does, and no other thread before that. */
+extern void GC_stop_world_external(void);
+extern void GC_start_world_external(void);
+static void *step_on(void *data)
+{
+    while (!is_over) steps++;
+    return data;
+}
+static void wait_for_steps(void)
+{
+    for (long seen = steps; steps == seen;) sched_yield();
+}
+static int resumed_in_a_stop(void)
+{
+    pthread_t all[2];
+    int ran = 0;
+    alarm(60);
+    is_over = 0;
+    for (int k = 0; k < 2; k++) pthread_create(&all[k], NULL, step_on, NULL);
+    for (int k = 0; k < 20; k++) {
+        wait_for_steps();
+        GC_suspend_thread(all[k % 2]);
+        GC_stop_world_external();
+        long seen = steps;
+        GC_resume_thread(all[k % 2]);
+        rest(0.002);
+        ran += steps != seen;
+        GC_start_world_external();
+    }
+    is_over = 1;
+    for (int k = 0; k < 2; k++) pthread_join(all[k], NULL);
+    return ran;
+}
+
 /* The process changes its user, which each thread does by a signal of the C library's, while one is suspended. */
 static void *wait_for_the_end(void *data)
 {
@@ -371,6 +447,8 @@ int main(void)
     pid_t stopped = begin_in_child(is_stopped_itself);
     unregistered();
     suspended();
+    CHECK(status_of(suspends_itself) == 0);
+    CHECK(status_of(resumed_in_a_stop) == 0);
     CHECK(status_of(changes_its_user) == 0);
     CHECK(status_of(handles_signals) == 0);
     CHECK(status_of(collects_on) == 0);

@@ -194,39 +194,59 @@ static void endings(void)
     CHECK(stop());
 }
 
-/* The kernel writes into an object while other threads collect. */
+/* The kernel writes into an object while other threads collect, and while a handler of the same thread makes calls of its own: of every other
+ * thread on a stack for signals. */
 static int ends[2];
 static _Atomic int faulted;
+static char (*stacks_of_signals)[65536];
+static void ask_the_time(int number)
+{
+    struct timespec time;
+    (void)number;
+    clock_gettime(CLOCK_REALTIME, &time);
+}
 static void *read_slowly(void *seed)
 {
+    uintptr_t number = (uintptr_t)seed / 10000;
+    stack_t alt = { .ss_sp = stacks_of_signals[number], .ss_size = sizeof *stacks_of_signals };
+    if (number % 2) sigaltstack(&alt, NULL);
     while (!is_over) {
         unsigned char *into = GC_malloc(2000);
         ssize_t got = read(ends[0], into, 1000);
         if (got < 0 && errno == EFAULT) faulted++;
         for (ssize_t k = 0; k < got; k++) bad += into[k] != 'x';
+        rounds++;
     }
     return seed;
 }
-static void reading(void)
+static void write_for_readers(void)
 {
     char text[500];
     memset(text, 'x', sizeof text);
-    faulted = 0;
-    if (pipe(ends) != 0) return;
-    start(read_slowly);
     for (int k = 0; k < 400; k++) {
         struct timespec some = { 0, 500000 };
+        for (int j = 0; j < THREADS; j++) pthread_kill(all[j], SIGUSR2);
         for (int j = 0; j < 40; j++) list_of(1, 100);
         if (k % 3 == 0) nanosleep(&some, NULL);
         (void)!write(ends[1], text, sizeof text);
     }
     is_over = 1;
     for (int k = 0; k < THREADS; k++) (void)!write(ends[1], text, sizeof text);
+}
+static void reading(void)
+{
+    struct sigaction asks = { .sa_handler = ask_the_time, .sa_flags = SA_ONSTACK | SA_RESTART };
+    faulted = 0;
+    stacks_of_signals = malloc(THREADS * sizeof *stacks_of_signals);
+    if (pipe(ends) != 0 || !stacks_of_signals || sigaction(SIGUSR2, &asks, NULL) != 0) abort();
+    start(read_slowly);
+    write_for_readers();
     close(ends[1]);
     CHECK(stop());
-    CHECK(faulted == 0);
+    CHECK(rounds > 0 && faulted == 0);
     if (faulted) printf("  EFAULT %d times\n", faulted);
     close(ends[0]);
+    free(stacks_of_signals);
 }
 
 /* Objects that are loaded and taken away, whose data and thread-local data name objects. */
@@ -255,6 +275,39 @@ static void loading(void)
     start(load);
     while (rounds < 300 && bad == 0) GC_gcollect();
     CHECK(stop());
+}
+
+/* An object with more thread-local data comes in the place of one whose data a thread has still. */
+static const char *larger;
+static void *(*place_of_larger)(void);
+static _Atomic int has_looked;
+static void *look_once(void *seed)
+{
+    place_of_larger();
+    has_looked = 1;
+    while (!is_over) sched_yield();
+    return seed;
+}
+static void *load_place(const char *from)
+{
+    void *object = dlopen(from, RTLD_NOW), *found = object ? dlsym(object, "thread_place") : NULL;
+    if (!found) abort();
+    memcpy(&place_of_larger, &found, sizeof found);
+    return object;
+}
+static void replaced(void)
+{
+    pthread_t thread;
+    is_over = has_looked = 0;
+    void *first = load_place(path);
+    pthread_create(&thread, NULL, look_once, NULL);
+    while (!has_looked) sched_yield();
+    dlclose(first);
+    void *second = load_place(larger);
+    for (int k = 0; k < 3; k++) GC_gcollect();
+    is_over = 1;
+    CHECK(pthread_join(thread, NULL) == 0);
+    dlclose(second);
 }
 
 /* Threads that go through the loaded objects, slowly, while others collect. */
@@ -294,6 +347,7 @@ int main(int count, char **words)
 {
     struct node *mine;
     path = count > 1 ? words[1] : NULL;
+    larger = count > 2 ? words[2] : NULL;
     GC_INIT();
     is_incremental = getenv("INCREMENTAL") != NULL;
     if (is_incremental) GC_enable_incremental();
@@ -303,6 +357,7 @@ int main(int count, char **words)
     within_time(blocked);
     within_time(endings);
     if (path) within_time(loading);
+    if (larger) within_time(replaced);
     within_time(looking);
     within_time(reading);
     CHECK(is_list(mine, 11, 1000));
