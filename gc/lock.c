@@ -127,6 +127,9 @@ void mpgc_unlock_slowly(void)
     }
 }
 
+// Who was woken may be suspended before he has taken it: so another one is woken, once this thread gives it away.
+void mpgc_wake_another(void) { word |= WAITED_FOR; }
+
 bool mpgc_is_threaded(void) { return mpgc.is_threaded; }
 
 // There is one thread still. If it has the lock, by the depth alone, it has it in earnest from now on.

@@ -10,6 +10,7 @@
 // Counted under the rest.
 #include "layer.h"
 #include <errno.h>
+#include <linux/futex.h>
 #include <sys/syscall.h>
 #include <ucontext.h>
 #include <unistd.h>
@@ -52,25 +53,22 @@ static const char *stack_under(const void *context)
     return is_on_alt ? mpgc_self->under : at - RED_ZONE;
 }
 
-// Another thread may have opened the page since: then the write is done again. Where that faults again and again, the program has protected the
-// page itself.
-static bool is_of_program(uintptr_t address)
+// Whether the kernel may write to the page, where it changes no bit of the first word. (Who waits there for a change may be woken, for none.)
+static bool can_be_written(size_t page)
 {
-    enum { OFTEN = 100 };
-    static _Thread_local uintptr_t last __attribute__((tls_model("initial-exec")));
-    static _Thread_local unsigned times __attribute__((tls_model("initial-exec")));
-    times = address == last ? times + 1 : 1;
-    last = times < OFTEN ? address : 0;
-    return times >= OFTEN;
+    uint32_t nobody = 0;
+    const int changes_nothing = FUTEX_OP(FUTEX_OP_OR, 0, FUTEX_OP_CMP_EQ, 0);
+    return syscall(SYS_futex, &nobody, FUTEX_WAKE_OP_PRIVATE, 0, NULL, FIRST + page * PAGE, changes_nothing) >= 0;
 }
 
 // A write to a page of the heap: mostly nothing but the barrier makes it fault. The lock may be another's for as long as a step of a
-// collection: so this thread can be stopped here.
+// collection: so this thread can be stopped here. Another thread may have opened the page since, and then the write is done again; where the
+// kernel refuses it still, the program has protected the page itself.
 static void on_fault(int number, siginfo_t *info, void *context)
 {
-    uintptr_t address = (uintptr_t)info->si_addr;
-    bool is_ours = info->si_code == SEGV_ACCERR && mpgc_is_inside(address) && is_write(context);
-    if (!is_ours || !(mpgc.is_threaded || mpgc.is_closed[mpgc_page_of(address)])) {
+    size_t page = mpgc_page_of((uintptr_t)info->si_addr);
+    bool is_ours = info->si_code == SEGV_ACCERR && page < MAX_PAGES && is_write(context);
+    if (!is_ours || !(mpgc.is_threaded || mpgc.is_closed[page])) {
         mpgc_pass_on(number, info, context);
         return;
     }
@@ -80,12 +78,12 @@ static void on_fault(int number, siginfo_t *info, void *context)
     if (mpgc_self) mpgc_self->under = stack_under(context);
     mpgc_lock();
     mpgc_figures.faults++;
-    bool was_closed = mpgc.is_closed[mpgc_page_of(address)];
-    if (was_closed) mpgc_let_write(mpgc_page_of(address));
+    bool is_of_program = !mpgc.is_closed[page] && !can_be_written(page);
+    if (mpgc.is_closed[page]) mpgc_let_write(page);
     mpgc_unlock();
     if (mpgc_self) mpgc_self->under = was_under;
     errno = kept;
-    if (!was_closed && is_of_program(address)) mpgc_pass_on(number, info, context);
+    if (is_of_program) mpgc_pass_on(number, info, context);
 }
 
 // To be called before pages are closed, under blocked signals: where the C library's calls aren't taken (kernel/handlers.c), the program may

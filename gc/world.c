@@ -214,6 +214,7 @@ static void suspend(struct thread *one)
     mpgc_block_signals(&old);
     mpgc_stop_world();
     one->is_suspended = true;
+    mpgc_wake_another();
     mpgc_start_world();
     mpgc_restore_signals(&old);
 }

@@ -88,24 +88,26 @@ static void let_a_moment_pass(void)
     }
 }
 
-static bool look_alone(void)
+// Answers whether it stays: who ends may find another one made, as soon as the lock is free.
+static bool look_alone(bool *is_more)
 {
     GC_alloc_lock();
     if (mpgc_will_read_roots()) let_a_moment_pass();
-    bool answer = look();
+    *is_more = look();
+    bool stays = is_there;
     GC_alloc_unlock();
-    return answer;
+    return stays;
 }
 
 static void *go_on(void *data)
 {
-    do {
-        uint32_t seen = wakes;
-        if (look_alone())
+    bool is_more;
+    for (uint32_t seen = wakes; look_alone(&is_more); seen = wakes) {
+        if (is_more)
             mpgc_give_way();
-        else if (is_there)
+        else
             sleep_until_woken(seen);
-    } while (is_there);
+    }
     return data;
 }
 

@@ -1,6 +1,6 @@
 /* What makes it hard to stop threads: that they are cancelled in a call of the system, make requests as the last they do, are suspended before
- * they run, by themselves or while the user changes, made with every signal blocked, or have said that they go; that the whole process is stopped; and faults
- * of the program's own making, beside the barrier's. */
+ * they run, by themselves or while the user changes, made with every signal blocked, or have said that they go; that the whole process is stopped; faults of many at
+ * one word; and faults of the program's own making, beside the barrier's. */
 #define _GNU_SOURCE
 #define GC_THREADS
 #include <malloc.h>
@@ -333,6 +333,40 @@ static int resumed_in_a_stop(void)
     return ran;
 }
 
+/* Threads that wait for the lock are suspended, maybe when they were woken for it: another one that waits gets it all the same. */
+static void *ask_for_large_ones(void *data)
+{
+    while (!is_over) GC_free(GC_malloc(100000));
+    return data;
+}
+static void *do_nothing(void *data) { return data; }
+static void *block_again_and_again(void *data)
+{
+    for (; !is_over; steps++) GC_do_blocking(do_nothing, NULL);
+    return data;
+}
+static int goes_on_beside_suspended_ones(void)
+{
+    enum { ROUNDS_OF_THESE = 3000, ASKING = 2, LOOKS = 20000 };
+    pthread_t all[ASKING], blocked;
+    int stuck = 0;
+    alarm(200);
+    is_over = 0;
+    for (int k = 0; k < ASKING; k++) pthread_create(&all[k], NULL, ask_for_large_ones, NULL);
+    pthread_create(&blocked, NULL, block_again_and_again, NULL);
+    for (int round = 0; round < ROUNDS_OF_THESE && !stuck; round++) {
+        rest(round * 7 % 300 / 1e6);
+        for (int k = 0; k < ASKING; k++) GC_suspend_thread(all[k]);
+        long seen = steps, looks = 0;
+        for (; looks < LOOKS && steps == seen; looks++) rest(looks < 100 ? 0.00001 : 0.001);
+        stuck = looks == LOOKS;
+        for (int k = 0; k < ASKING; k++) GC_resume_thread(all[k]);
+    }
+    is_over = 1;
+    for (int k = 0; k < ASKING; k++) pthread_join(all[k], NULL);
+    return pthread_join(blocked, NULL) == 0 ? stuck : 2;
+}
+
 /* The process changes its user, which each thread does by a signal of the C library's, while one is suspended. */
 static void *wait_for_the_end(void *data)
 {
@@ -378,6 +412,32 @@ static int made_blocked(void)
     for (int k = 0; k < 1000000; k++) GC_malloc(32);
     is_over = 1;
     return pthread_join(thread, NULL);
+}
+
+/* Threads write to one word again and again: each time its page was closed they all fault, and all but one find it open. */
+static _Atomic int writers;
+static volatile uint64_t *one_word;
+static void *write_to_one_word(void *data)
+{
+    for (writers++; !is_over;) *one_word = 1;
+    return data;
+}
+static int writes_to_one_word(void)
+{
+    enum { CYCLES = 6000 };
+    pthread_t all[3];
+    int answer = 0;
+    alarm(100);
+    GC_enable_incremental();
+    one_word = GC_malloc(64);
+    is_over = writers = 0;
+    for (int k = 0; k < 3; k++) pthread_create(&all[k], NULL, write_to_one_word, NULL);
+    while (writers < 3) sched_yield();
+    for (GC_word end = GC_get_gc_no() + CYCLES; GC_get_gc_no() < end; GC_start_incremental_collection())
+        while (GC_collect_a_little()) continue;
+    is_over = 1;
+    for (int k = 0; k < 3; k++) answer |= pthread_join(all[k], NULL);
+    return answer;
 }
 
 /* The program protects a page of an object, and opens it in its handler. */
@@ -449,11 +509,13 @@ int main(void)
     suspended();
     CHECK(status_of(suspends_itself) == 0);
     CHECK(status_of(resumed_in_a_stop) == 0);
+    CHECK(status_of(goes_on_beside_suspended_ones) == 0);
     CHECK(status_of(changes_its_user) == 0);
     CHECK(status_of(handles_signals) == 0);
     CHECK(status_of(collects_on) == 0);
     CHECK(status_of(lets_others_have_the_lock) == 0);
     CHECK(status_of(made_blocked) == 0);
+    CHECK(status_of(writes_to_one_word) == 0);
     CHECK(status_of(protects_itself) == 0);
     cancelled();
     destroyed_late();
