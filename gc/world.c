@@ -53,10 +53,20 @@ __attribute__((noinline)) static void wait_here(struct thread *self)
     const char *outer = self->top;
     self->stop = now;
     self->top = top;
+    self->stands = true;
     answers++;
     wake(&answers);
     for (uint32_t seen = turn; self->is_suspended || seen == self->stop || seen != turn; seen = turn) wait_while(&turn, seen, NULL);
+    self->stands = false;
     self->top = outer;
+}
+
+// Whether a thread that was stopped hasn't gone on yet, though it may. The lock is held.
+bool mpgc_is_one_standing(void)
+{
+    const struct thread *one = mpgc.threads;
+    while (one && !(one->stands && one->state == RUNNING && !one->is_suspended)) one = one->next;
+    return one && !mpgc_world_is_stopped();
 }
 
 // This thread is blocked (GC_do_blocking), and was told to wait.

@@ -89,6 +89,14 @@ static uint64_t words_of_step(void)
     return mpgc_is_last_thread() ? ALONE : STOPPING;
 }
 
+// Who asks for so much that the others are stopped again and again lets those go on first that haven't since, but for no longer than a moment.
+static void let_others_go_on(void)
+{
+    enum { LOOKS = 20 };
+    static const struct timespec moment = { 0, 50000 };
+    for (int k = 0; k < LOOKS && mpgc_is_one_standing(); k++) syscall(SYS_nanosleep, &moment, NULL);
+}
+
 // A request makes a step, and a large one more of them: another for as many words asked for since the last. But no more than it can wait for.
 static void make_steps(void)
 {
@@ -97,6 +105,7 @@ static void make_steps(void)
     uint64_t since = mpgc_figures.since, more = since > seen ? (since - seen) / WORDS : 0;
     if (more > MOST) more = MOST;
     seen = since;
+    let_others_go_on();
     mpgc_step(words_of_step());
     for (; more > 0 && mpgc_is_in_cycle(); more--) mpgc_step(words_of_step());
 }
@@ -117,7 +126,10 @@ bool mpgc_look(bool is_asked)
         else
             make_steps();
         break;
-    case COLLECTION: (void)collect_unless(mpgc_stop_func()); break;
+    case COLLECTION:
+        let_others_go_on();
+        (void)collect_unless(mpgc_stop_func());
+        break;
     }
     return mpgc_is_in_cycle();
 }

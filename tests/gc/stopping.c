@@ -142,6 +142,33 @@ static int collects_on(void)
     return 1;
 }
 
+/* Who asks for so much that a collection is due again and again lets others go on, also where all have one processor, and nobody is taken off it
+ * for who was woken. */
+static GC_word most_collections;
+static void *ask_without_end(void *data)
+{
+    while (!is_over && GC_get_gc_no() < most_collections) GC_malloc(64);
+    return data;
+}
+static int goes_on_beside_requests(void)
+{
+    enum { RESTS = 20, MOST = 20000 };
+    pthread_t asking;
+    cpu_set_t one;
+    CPU_ZERO(&one);
+    CPU_SET(sched_getcpu(), &one);
+    (void)!sched_setaffinity(0, sizeof one, &one);
+    (void)!sched_setscheduler(0, SCHED_BATCH, &(struct sched_param){ 0 });
+    alarm(100);
+    is_over = 0;
+    most_collections = GC_get_gc_no() + MOST;
+    pthread_create(&asking, NULL, ask_without_end, NULL);
+    for (int k = 0; k < RESTS; k++) rest(0.001);
+    int answer = GC_get_gc_no() >= most_collections;
+    is_over = 1;
+    return pthread_join(asking, NULL) == 0 ? answer : 2;
+}
+
 /* Who has the lock nearly always lets those have it who wait. */
 static _Atomic int turns;
 static void *hold_for_long(void *data)
@@ -349,12 +376,13 @@ static int goes_on_beside_suspended_ones(void)
 {
     enum { ROUNDS_OF_THESE = 3000, ASKING = 2, LOOKS = 20000 };
     pthread_t all[ASKING], blocked;
+    time_t latest = time(NULL) + 20;
     int stuck = 0;
     alarm(200);
     is_over = 0;
     for (int k = 0; k < ASKING; k++) pthread_create(&all[k], NULL, ask_for_large_ones, NULL);
     pthread_create(&blocked, NULL, block_again_and_again, NULL);
-    for (int round = 0; round < ROUNDS_OF_THESE && !stuck; round++) {
+    for (int round = 0; round < ROUNDS_OF_THESE && !stuck && time(NULL) < latest; round++) {
         rest(round * 7 % 300 / 1e6);
         for (int k = 0; k < ASKING; k++) GC_suspend_thread(all[k]);
         long seen = steps, looks = 0;
@@ -427,13 +455,14 @@ static int writes_to_one_word(void)
     enum { CYCLES = 6000 };
     pthread_t all[3];
     int answer = 0;
+    time_t latest = time(NULL) + 10;
     alarm(100);
     GC_enable_incremental();
     one_word = GC_malloc(64);
     is_over = writers = 0;
     for (int k = 0; k < 3; k++) pthread_create(&all[k], NULL, write_to_one_word, NULL);
     while (writers < 3) sched_yield();
-    for (GC_word end = GC_get_gc_no() + CYCLES; GC_get_gc_no() < end; GC_start_incremental_collection())
+    for (GC_word end = GC_get_gc_no() + CYCLES; GC_get_gc_no() < end && time(NULL) < latest; GC_start_incremental_collection())
         while (GC_collect_a_little()) continue;
     is_over = 1;
     for (int k = 0; k < 3; k++) answer |= pthread_join(all[k], NULL);
@@ -513,6 +542,7 @@ int main(void)
     CHECK(status_of(changes_its_user) == 0);
     CHECK(status_of(handles_signals) == 0);
     CHECK(status_of(collects_on) == 0);
+    CHECK(status_of(goes_on_beside_requests) == 0);
     CHECK(status_of(lets_others_have_the_lock) == 0);
     CHECK(status_of(made_blocked) == 0);
     CHECK(status_of(writes_to_one_word) == 0);
