@@ -144,7 +144,7 @@ static int collects_on(void)
 
 /* Who asks for so much that a collection is due again and again lets others go on, also where all have one processor, and nobody is taken off it
  * for who was woken. */
-static GC_word most_collections;
+static _Atomic GC_word most_collections;
 static void *ask_without_end(void *data)
 {
     while (!is_over && GC_get_gc_no() < most_collections) GC_malloc(64);
@@ -152,8 +152,9 @@ static void *ask_without_end(void *data)
 }
 static int goes_on_beside_requests(void)
 {
-    enum { RESTS = 20, MOST = 20000 };
+    enum { RESTS = 300, MOST = 3000 };
     pthread_t asking;
+    int answer = 0;
     cpu_set_t one;
     CPU_ZERO(&one);
     CPU_SET(sched_getcpu(), &one);
@@ -163,8 +164,11 @@ static int goes_on_beside_requests(void)
     is_over = 0;
     most_collections = GC_get_gc_no() + MOST;
     pthread_create(&asking, NULL, ask_without_end, NULL);
-    for (int k = 0; k < RESTS; k++) rest(0.001);
-    int answer = GC_get_gc_no() >= most_collections;
+    for (int k = 0; k < RESTS && !answer; k++) {
+        most_collections = GC_get_gc_no() + MOST;
+        rest(0.001);
+        answer = GC_get_gc_no() >= most_collections;
+    }
     is_over = 1;
     return pthread_join(asking, NULL) == 0 ? answer : 2;
 }
