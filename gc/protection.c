@@ -382,13 +382,15 @@ void mpgc_drop_pins(struct thread *thread)
 
 static bool is_on_own_stack(const char *frame) { return frame >= mpgc_self->low && frame < mpgc_self->bottom; }
 
-// A handler may make calls of its own in the middle of one: those end that lie no higher than the one with this frame.
+// A handler may make calls of its own in the middle of one: those end that lie no higher than the one with this frame, but for what that one's
+// function has pushed since for a call, which is less than a signal's frame takes.
 static bool has_over(const char *frame)
 {
+    enum { PUSHED = 128 };
     if (mpgc_self->pins == 0) return false;
     const char *last = mpgc_self->pinned[mpgc_self->pins - 1].frame;
     bool is_own = is_on_own_stack(frame);
-    return is_on_own_stack(last) == is_own ? last <= frame : is_own;
+    return is_on_own_stack(last) == is_own ? last <= frame + PUSHED : is_own;
 }
 
 void mpgc_wrote(void)
