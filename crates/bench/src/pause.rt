@@ -37,7 +37,12 @@ fn time_pause<R: Threads + Wait + Sync + Eprint + Clock>(
     let mut least = u128::MAX;
     for _ in 0..ROUNDS {
         let start = Instant::now(rt)?;
-        heap.pause(rt, alloc, roots, Helpers::new(number).map(|helpers| helpers.where_it_pays()));
+        heap.pause(
+            rt,
+            alloc,
+            roots,
+            Helpers::new(number).map(|helpers| helpers.where_it_pays()),
+        );
         least = least.min(since(rt, start)?);
     }
     report(rt, name, least, count, u64::from(number))
