@@ -36,7 +36,7 @@ skip() { printf 'gc: skipped, for want of %s: %s\n' "$1" "$2"; }
 counted() {
     local what=$1 said status
     shift
-    said=$(timeout 1500 "$@" 2>&1)
+    said=$(timeout -k 10 1500 "$@" 2>&1)
     status=$?
     if [ $status = 0 ] && [[ $said =~ ([0-9]+)\ passed,\ 0\ failed$ ]]; then
         passed=$((passed + BASH_REMATCH[1]))
@@ -49,7 +49,7 @@ counted() {
 shadow() {
     local what=$1 status
     shift
-    timeout 1500 "$@" >"$room/said" 2>&1
+    timeout -k 10 1500 "$@" >"$room/said" 2>&1
     status=$?
     [ $status = 0 ] || status="$status: $(tail -n 3 "$room/said")"
     is "$what" 0 "$status"
