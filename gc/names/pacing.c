@@ -21,6 +21,7 @@ enum {
 };
 
 static uint64_t budget;               // words to ask for before the next collection
+static uint64_t left_over;            // that stood in runs behind the last one: as many mostly stand there always, so that they bring none
 static size_t allowed;                // pages, which the heap fills before it
 static size_t granted;                // at least so many, since the program asked for them
 static size_t full;                   // the same, or as many as it has already
@@ -82,15 +83,15 @@ static void set_budget_for(size_t used)
 // After a collection. Of a page that isn't swept half counts. What is still to be given out will be asked for from now on.
 void mpgc_set_budget(void)
 {
-    uint64_t left = mpgc_words_in_runs();
     size_t used = mpgc_used_pages();
+    left_over = mpgc_words_in_runs();
     set_budget_for(used - mpgc_pending_pages() / 2);
     full = used < allowed ? allowed : used < allowed + allowed / 4 ? used : allowed + allowed / 4;
     uint64_t asked = mpgc_figures.since + mpgc_words_taken_back(true);
-    if (asked > left) mpgc_figures.total += asked - left;
-    mpgc_figures.since = left;
+    if (asked > left_over) mpgc_figures.total += asked - left_over;
+    mpgc_figures.since = left_over;
     mpgc_figures.freed = 0;
-    mpgc_figures.next = left + BETWEEN_LOOKS;
+    mpgc_figures.next = left_over + BETWEEN_LOOKS;
     mpgc_figures.most_entries = mpgc_figures.entries + (mpgc_figures.entries / 3 > LEAST_ENTRIES ? mpgc_figures.entries / 3 : LEAST_ENTRIES);
     is_ripe = false;
     unfilled_until = 0;
@@ -117,16 +118,18 @@ void mpgc_grant(size_t pages)
 // No collection begins but those that the program asks for.
 bool mpgc_is_off(void) { return GC_dont_gc || GC_get_disable_automatic_collection(); }
 
+static uint64_t asked_since(void) { return mpgc_figures.since > left_over ? mpgc_figures.since - left_over : 0; }
+
 // Of what was asked for since, what wasn't freed. By this pages fill; but as with bdwgc a collection is due by no less than an eighth of it.
 static uint64_t still_there(void)
 {
-    uint64_t since = mpgc_figures.since, freed = mpgc_figures.freed;
+    uint64_t since = asked_since(), freed = mpgc_figures.freed;
     return since > freed ? since - freed : 0;
 }
 
 static uint64_t asked_for(void)
 {
-    uint64_t least = mpgc_figures.since / 8, left = still_there();
+    uint64_t least = asked_since() / 8, left = still_there();
     return left < least ? least : left;
 }
 
@@ -175,8 +178,8 @@ static enum due step_or_collection(void)
 static enum due due_beside(void)
 {
     bool is_needed = is_due() || (GC_gc_no > 0 && !is_settled);
-    bool is_late = mpgc_figures.since >= budget || mpgc_figures.entries > mpgc_figures.most_entries + LEAST_ENTRIES;
-    mpgc_figures.next = !is_needed ? budget / EARLY : mpgc_figures.since + (is_late ? BETWEEN_LOOKS : BETWEEN_WAKES);
+    bool is_late = asked_since() >= budget || mpgc_figures.entries > mpgc_figures.most_entries + LEAST_ENTRIES;
+    mpgc_figures.next = !is_needed ? left_over + budget / EARLY : mpgc_figures.since + (is_late ? BETWEEN_LOOKS : BETWEEN_WAKES);
     if (!is_needed) return NOTHING;
     return is_late ? step_or_collection() : WAKE;
 }
@@ -184,7 +187,7 @@ static enum due due_beside(void)
 // So many times as long may a step beside the program be, since that runs ahead.
 unsigned mpgc_lag(void)
 {
-    uint64_t begun = budget / EARLY, lag = mpgc_figures.since > begun ? (mpgc_figures.since - begun) * MOST_LAG / budget : 0;
+    uint64_t begun = budget / EARLY, asked = asked_since(), lag = asked > begun ? (asked - begun) * MOST_LAG / budget : 0;
     return lag < MOST_LAG ? (unsigned)lag + 1 : MOST_LAG;
 }
 
@@ -212,7 +215,7 @@ void mpgc_tidied(bool did_some)
         settle();
         is_settled = true;
     }
-    uint64_t most = budget + mpgc_figures.freed;
+    uint64_t most = left_over + budget + mpgc_figures.freed;
     if (is_settled && most > mpgc_figures.next) mpgc_figures.next = most;
 }
 

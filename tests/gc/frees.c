@@ -270,6 +270,31 @@ static void beside_a_handler(void)
     CHECK(wrong == 0);
 }
 
+/* Objects of all sizes that were freed wait to be given out. They are as many as are asked for between two collections, and bring none: 57 come, and
+ * else 170. */
+static GC_word collections_beside_freed_ones(void)
+{
+    static const size_t sizes[] = { 16, 32, 48, 64, 96, 128, 192, 256, 384, 512, 768, 1024, 2000 };
+    enum { KINDS = sizeof sizes / sizeof *sizes, ROUNDS = 20 };
+    static void *all[2 * KINDS * RUN];
+    GC_word count = GC_get_gc_no();
+    for (int round = 0; round < ROUNDS; round++) {
+        for (size_t k = 0; k < 2 * KINDS * RUN; k++) all[k] = made(sizes[k / RUN % KINDS], k / RUN / KINDS);
+        for (size_t k = 0; k < 2 * KINDS * RUN; k++) GC_free(all[k]);
+    }
+    memset(all, 0, sizeof all);
+    return GC_get_gc_no() - count;
+}
+static void bring_no_collections(void)
+{
+    GC_word divisor = GC_get_free_space_divisor();
+    GC_set_free_space_divisor(300);
+    GC_gcollect();
+    GC_word count = collections_beside_freed_ones();
+    CHECK(GC_is_incremental_mode() || count <= 100);
+    GC_set_free_space_divisor(divisor);
+}
+
 int main(void)
 {
     pid_t watcher = watch(300);
@@ -295,6 +320,7 @@ int main(void)
     frees_of_the_next(40);
     frees_of_the_next(400);
     frees_of_the_next(900);
+    bring_no_collections();
     kill(watcher, SIGKILL);
     return check_ends();
 }
