@@ -88,7 +88,8 @@ impl MarkStack {
             return None;
         }
         self.len -= 1;
-        Some(self.entries[self.len])
+        let Entry { base, next } = self.entries[self.len];
+        Some(Entry { base, next })
     }
 
     /// Takes all entries off.
@@ -105,8 +106,10 @@ impl MarkStack {
         ensures { AreSwapped self.old self.new }
     {
         let below = self.len - 2;
-        let second = self.entries[below];
-        self.entries[below] = self.entries[below + 1];
-        self.entries[below + 1] = second;
+        let (second, top) = (self.entries[below], self.entries[below + 1]);
+        self.entries[below].base = top.base;
+        self.entries[below].next = top.next;
+        self.entries[below + 1].base = second.base;
+        self.entries[below + 1].next = second.next;
     }
 }
