@@ -4,13 +4,11 @@
 //
 // The loader tells where this thread's data is, and not where another's. But each thread has a vector of its modules' data behind its own
 // pointer, in the same place since the first C library for threads of this kind. (Most of it lies at the end of the stack too, but not for
-// the first thread, and not what was loaded later.) The vector doesn't tell of an object that was loaded later and has its data in the room
-// before that pointer, as compiled for it: so the room is read too. Keys are in no documented place: so what is set is written down here too.
+// the first thread, and not what was loaded later.) Keys are in no documented place: so what is set is written down here too.
 // Counted under threads.
 #include "layer.h"
 #include "kernel/next.h"
 #include <errno.h>
-#include <string.h>
 #include <sys/mman.h>
 #include <sys/syscall.h>
 #include <unistd.h>
@@ -50,29 +48,6 @@ void mpgc_scan_locals(const struct thread *thread, size_t module, size_t bytes, 
         scan_as_far_as_it_goes(data, data + bytes, scan);
     else
         scan(data, data + bytes);
-}
-
-// The room before each thread's pointer, and some bytes more: as the loader tells sanitizers.
-static size_t room_bytes;
-void mpgc_find_room_of_locals(void)
-{
-    void (*tell)(size_t *bytes, size_t *alignment);
-    size_t alignment;
-    void *found = dlsym(RTLD_DEFAULT, "_dl_get_tls_static_info");
-    _Static_assert(sizeof found == sizeof tell, "functions have other pointers than data");
-    memcpy(&tell, &found, sizeof tell);
-    if (found) tell(&room_bytes, &alignment);
-}
-
-// Where it lies in the stack it is read with that.
-void mpgc_scan_room_of_locals(const struct thread *thread, void (*scan)(const char *from, const char *to))
-{
-    const char *to = thread->pointer, *from = to - room_bytes;
-    int kept = errno;
-    if (to >= thread->low && to <= thread->bottom) return;
-    while (from < to && !can_be_read(from)) from = (const char *)(((uintptr_t)from & ~(PAGE - 1)) + PAGE);
-    errno = kept;
-    if (from < to) scan(from, to);
 }
 
 void mpgc_scan_keys(const struct thread *thread, void (*scan)(const char *from, const char *to))

@@ -81,7 +81,6 @@ void mpgc_know_first(void)
 {
     find_this(&mpgc.first, NULL);
     (void)mpgc_next_creator();
-    mpgc_find_room_of_locals();
     mpgc.first.id = pthread_self();
     if (!GC_stackbottom) GC_stackbottom = (char *)(uintptr_t)mpgc.first.bottom;
     mpgc.first.state = RUNNING;
@@ -405,7 +404,6 @@ void mpgc_scan_threads(void (*scan)(const char *from, const char *to), void (*pu
         if (one->state == STARTING || one->state == ENDED) continue;
         mpgc_push_runs(one, push);
         scan_stack(one, scan);
-        mpgc_scan_room_of_locals(one, scan);
         mpgc_scan_keys(one, scan);
     }
 }
