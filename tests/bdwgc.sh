@@ -2,8 +2,8 @@
 # tests/bdwgc.sh [FOLDER [NAME..]]
 #
 # bdwgc's own test programs, or those with these NAMEs, of its source in FOLDER (without one, of Debian's package libgc, by apt-get source,
-# which needs a deb-src line), compiled with its own headers and linked with libmpgc: each in full collections and in small steps. It prints a
-# table
+# which needs a deb-src line), compiled with the headers of include/mpgc and linked with libmpgc: each in full collections and in small steps.
+# What a program says of bdwgc's private headers is bdwgc's. It prints a table
 #
 #     | PROGRAM | full | steps |
 #
@@ -25,13 +25,13 @@ if [ ! -e "$source/tests/test.c" ]; then
 fi
 source=$(readlink -f "$source")
 "$top/gc/build" "$room" || exit 1
-flags=(-O1 -w -DGC_THREADS -DGC_PTHREADS "-I$source/include" "-I$source/include/gc" "-I$source")
+flags=(-O1 -w -DGC_THREADS -DGC_PTHREADS "-I$top/include/mpgc" "-I$top/include/mpgc/gc" -idirafter "$source/include" -idirafter "$source")
 links=("-L$room" -lmpgc "-Wl,-rpath,$room" -pthread)
 
 # made NAME: the program is compiled.
 made() {
     case $1 in
-        test_cpp) g++ "${flags[@]}" "$source/tests/test_cpp.cc" "$source/gc_cpp.cc" "$source/gc_badalc.cc" -o "$room/$1" "${links[@]}" ;;
+        test_cpp) g++ "${flags[@]}" "$source/tests/test_cpp.cc" -o "$room/$1" "-L$room" -lmpgccpp "${links[@]}" ;;
         staticrootstest)
             cc "${flags[@]}" -shared -fPIC "$source/tests/staticrootslib.c" -o "$room/libstaticroots.so" "${links[@]}" &&
                 cc "${flags[@]}" "$source/tests/$1.c" -o "$room/$1" "-L$room" -lstaticroots "${links[@]}"

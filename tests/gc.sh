@@ -57,24 +57,19 @@ shadow() {
 
 build() { "$top/gc/build" "$@" >"$room/said" 2>&1 || is "gc/build $*" built "$(tail -n 5 "$room/said")"; }
 
-# The library, without warnings; the header in three languages.
+# The library, without warnings, and its headers.
 build "$room"
 if [ ! -e "$room/libmpgc.so" ]; then
     echo "$passed passed, $failed failed"
     exit 1
 fi
-for language in "-x c -std=c99" "-x c -std=c11" "-x c++ -std=c++17"; do
-    # shellcheck disable=SC2086
-    printf '#include "gc.h"\n#include <gc/gc.h>\nint main(void) { return GC_malloc(1) == 0; }\n' |
-        cc $language "${warnings[@]}" "-I$top/include/mpgc" -fsyntax-only - 2>"$room/said"
-    is "the header as $language" 0 "$?"
-done
 if command -v clang >"$room/said"; then CC=clang build "$room/clang"; else skip clang "the library built by it"; fi
 
 . "$top/tests/gc/parts/names.sh"
+. "$top/tests/gc/parts/headers.sh"
 
 # Each function, each place of roots, and what stands round the barrier.
-for test in functions settings macros limits links frees leaks unmapped finalizers kinds roots barrier crowded kernel signals moments process shadow \
+for test in functions settings macros inline limits links frees leaks unmapped finalizers kinds roots barrier crowded kernel signals moments process shadow \
     threads world loading registering stopping together collector marking stacks; do
     "${c[@]}" "$top/tests/gc/$test.c" "-L$room" -lmpgc "-Wl,-rpath,$room" -pthread -o "$room/$test" 2>"$room/said"
     is "$test is built" "" "$(cat "$room/said")"
@@ -91,7 +86,7 @@ counted frees "$room/frees"
 counted "frees, in small steps" env GC_ENABLE_INCREMENTAL=1 "$room/frees"
 counted "frees, beside the collector's thread" env GC_COLLECTOR_THREAD=1 "$room/frees"
 counted leaks "$room/leaks"
-for test in unmapped finalizers kinds registering; do
+for test in inline unmapped finalizers kinds registering; do
     counted "$test" "$room/$test"
     counted "$test, in small steps" env INCREMENTAL=1 "$room/$test"
 done
@@ -131,12 +126,28 @@ for test in barrier kernel signals; do
     fi
 done
 if [ -e /usr/include/gc/gc_mark.h ]; then
-    for test in functions settings macros links leaks unmapped finalizers kinds registering stacks; do
+    for test in functions settings macros inline links leaks unmapped finalizers kinds registering stacks; do
         cc -std=c11 -O1 -w -DOTHER "$top/tests/gc/$test.c" -lgc -o "$room/${test}_bdw"
         counted "$test, over bdwgc" "$room/${test}_bdw"
     done
 else
     skip libgc-dev "the functions, settings, links, finalizers, kinds and threads over bdwgc"
+fi
+
+# Programs in C++.
+if command -v c++ >"$room/said"; then
+    c++ -std=c++17 -O2 "${warnings[@]}" "-I$top/include/mpgc" "$top/tests/gc/cplusplus.cc" "-L$room" -lmpgccpp -lmpgc "-Wl,-rpath,$room" -pthread \
+        -o "$room/cplusplus" 2>"$room/said"
+    is "cplusplus is built" "" "$(cat "$room/said")"
+    for setting in FULL INCREMENTAL GC_COLLECTOR_THREAD; do
+        counted "cplusplus, $setting" env $setting=1 "$room/cplusplus"
+    done
+    if [ -e /usr/include/gc/gc_cpp.h ]; then
+        c++ -std=c++17 -O1 -w -DOTHER "$top/tests/gc/cplusplus.cc" -lgccpp -lgc -o "$room/cplusplus_bdw"
+        counted "cplusplus, over bdwgc" "$room/cplusplus_bdw"
+    fi
+else
+    skip c++ "programs in it"
 fi
 
 # The collector's own thread: what it has to stand, and the tests above that have something to do for it.

@@ -1,5 +1,4 @@
-/* mpgc/gc.h: the names of bdwgc's gc.h, over the proved heap of mpheap_c. Beside it lie gc/gc_mark.h, gc/gc_typed.h, gc/gc_disclaim.h
- * and gc/gc_gcj.h, with bdwgc's other names.
+/* mpgc/gc.h: the names of bdwgc's gc.h, over the proved heap of mpheap_c. Beside it, in gc/, lie bdwgc's other headers.
  *
  * A program that was written for bdwgc is compiled with `-I .../include/mpgc` in place of bdwgc's folder and linked with
  * libmpgc, or run as it is with `LD_PRELOAD=libmpgc.so`. Names and meanings are those that bdwgc documents. Three groups:
@@ -20,28 +19,8 @@
 #include <wchar.h>
 #endif
 
-#define GC_VERSION_MAJOR 8
-#define GC_VERSION_MINOR 2
-#define GC_VERSION_MICRO 2
-#define GC_TMP_VERSION_MAJOR GC_VERSION_MAJOR
-#define GC_TMP_VERSION_MINOR GC_VERSION_MINOR
-#define GC_TMP_VERSION_MICRO GC_VERSION_MICRO
-
-#define GC_CALL
-#define GC_CALLBACK
-#ifdef __GNUC__
-#define GC_API extern __attribute__((visibility("default")))
-#ifdef GC_OOM_FUNC_RETURNS_ALIAS /* the program's GC_oom_fn answers memory that has another name too */
-#define GC_ATTR_MALLOC
-#else
-#define GC_ATTR_MALLOC __attribute__((malloc))
-#endif
-#define GC_ATTR_ALLOC_SIZE(n) __attribute__((alloc_size(n)))
-#else
-#define GC_API extern
-#define GC_ATTR_MALLOC
-#define GC_ATTR_ALLOC_SIZE(n)
-#endif
+#include "gc/gc_version.h"
+#include "gc/gc_config_macros.h"
 
 #ifdef __cplusplus
 extern "C" {
@@ -61,36 +40,9 @@ typedef long GC_signed_word;
 
 /* The beginning and the end. GC_init is called by the first request if it wasn't before. It reads from the environment
  * GC_INITIAL_HEAP_SIZE and GC_MAXIMUM_HEAP_SIZE (bytes, with k, M or G behind them), GC_ENABLE_INCREMENTAL,
- * GC_DISABLE_INCREMENTAL, GC_COLLECTOR_THREAD, GC_DONT_GC, GC_FREE_SPACE_DIVISOR and GC_PRINT_STATS. GC_INIT does too what the program's macros
- * of these names say: GC_INITIAL_HEAP_SIZE, GC_MAXIMUM_HEAP_SIZE, GC_FREE_SPACE_DIVISOR (numbers), GC_DONT_GC and
- * GC_IGNORE_WARN. Those that set what has no effect here have none. */
-#ifdef GC_DONT_GC
-#define GC_INIT_DONT_GC (GC_dont_gc = 1)
-#else
-#define GC_INIT_DONT_GC ((void)0)
-#endif
-#ifdef GC_MAXIMUM_HEAP_SIZE
-#define GC_INIT_MAXIMUM GC_set_max_heap_size(GC_MAXIMUM_HEAP_SIZE)
-#else
-#define GC_INIT_MAXIMUM ((void)0)
-#endif
-#ifdef GC_FREE_SPACE_DIVISOR
-#define GC_INIT_DIVISOR GC_set_free_space_divisor(GC_FREE_SPACE_DIVISOR)
-#else
-#define GC_INIT_DIVISOR ((void)0)
-#endif
-#ifdef GC_IGNORE_WARN
-#define GC_INIT_WARN GC_set_warn_proc(GC_ignore_warn_proc)
-#else
-#define GC_INIT_WARN ((void)0)
-#endif
-#ifdef GC_INITIAL_HEAP_SIZE
-#define GC_INIT_SIZE \
-    (void)(GC_get_heap_size() < (GC_INITIAL_HEAP_SIZE) && GC_expand_hp((GC_INITIAL_HEAP_SIZE) - GC_get_heap_size()))
-#else
-#define GC_INIT_SIZE ((void)0)
-#endif
-#define GC_INIT() (GC_INIT_DONT_GC, GC_INIT_MAXIMUM, GC_INIT_DIVISOR, GC_init(), GC_INIT_WARN, GC_INIT_SIZE)
+ * GC_DISABLE_INCREMENTAL, GC_COLLECTOR_THREAD, GC_DONT_GC, GC_FREE_SPACE_DIVISOR and GC_PRINT_STATS. GC_INIT is a statement that does too
+ * what the program's macros say (gc/gc_init.h). */
+#include "gc/gc_init.h"
 GC_API void GC_init(void);
 GC_API int GC_is_init_called(void);
 GC_API void GC_deinit(void);
@@ -390,6 +342,7 @@ GC_API GC_finalizer_notifier_proc GC_finalizer_notifier;
 
 /* Requests with the caller's place, which is kept where leaks are looked for. Nothing is checked at an object's ends. */
 #define GC_EXTRAS __FILE__, __LINE__
+#define GC_EXTRA_PARAMS const char *file, int line
 GC_API void *GC_debug_malloc(size_t bytes, ...);
 GC_API void *GC_debug_malloc_atomic(size_t bytes, ...);
 GC_API void *GC_debug_malloc_uncollectable(size_t bytes, ...);
@@ -457,28 +410,18 @@ GC_API int GC_get_parallel(void);
 GC_API void GC_set_markers_count(unsigned count);
 GC_API void GC_start_mark_threads(void);
 #ifdef GC_THREADS
-#include <pthread.h>
-#include <signal.h>
-GC_API int GC_pthread_create(pthread_t *thread, const pthread_attr_t *attributes, void *(*start)(void *), void *data);
-GC_API int GC_pthread_join(pthread_t thread, void **answer);
-GC_API int GC_pthread_detach(pthread_t thread);
-GC_API int GC_pthread_cancel(pthread_t thread);
-GC_API void GC_pthread_exit(void *answer) __attribute__((noreturn));
-#ifdef _POSIX_C_SOURCE
-GC_API int GC_pthread_sigmask(int how, const sigset_t *set, sigset_t *old);
-#endif
+GC_API int GC_get_suspend_signal(void); /* SIGPWR, and no other where one is set */
+GC_API void GC_set_suspend_signal(int number); /* no effect */
+GC_API int GC_get_thr_restart_signal(void);
+GC_API void GC_set_thr_restart_signal(int number); /* no effect */
 GC_API void GC_register_altstack(void *stack, GC_word bytes, void *altstack, GC_word altstack_bytes); /* no effect */
-#ifndef GC_NO_THREAD_REDIRECTS
-#define pthread_create GC_pthread_create
-#define pthread_join GC_pthread_join
-#define pthread_detach GC_pthread_detach
-#define pthread_cancel GC_pthread_cancel
-#define pthread_exit GC_pthread_exit
-#define pthread_sigmask GC_pthread_sigmask
-#endif
+GC_API void GC_stop_world_external(void);
+GC_API void GC_start_world_external(void);
 #endif
 
 #ifdef __cplusplus
 }
 #endif
+
+#include "gc/gc_pthread_redirects.h"
 #endif

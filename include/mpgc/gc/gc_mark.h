@@ -11,6 +11,7 @@ extern "C" {
  * and makes no request. The two entries of the stack are handed on, and nothing more. */
 struct GC_ms_entry { void *opaque; };
 typedef struct GC_ms_entry *(*GC_mark_proc)(GC_word *object, struct GC_ms_entry *top, struct GC_ms_entry *limit, GC_word environment);
+#define GC_PROC_BYTES 100 /* what a call of it should read, at the least */
 #define GC_LOG_MAX_MARK_PROCS 6
 #define GC_MAX_MARK_PROCS (1 << GC_LOG_MAX_MARK_PROCS)
 #define GC_RESERVED_MARK_PROCS 8
@@ -34,6 +35,7 @@ GC_API struct GC_ms_entry *GC_mark_and_push(void *object, struct GC_ms_entry *to
          ? GC_mark_and_push(object, top, limit, from) : (top))
 
 GC_API size_t GC_get_debug_header_size(void);
+GC_API size_t GC_debug_header_size;
 #define GC_USR_PTR_FROM_BASE(p) ((void *)((char *)(p) + GC_get_debug_header_size()))
 GC_API void **GC_new_free_list(void);
 GC_API void **GC_new_free_list_inner(void);
@@ -45,10 +47,21 @@ GC_API void *GC_generic_malloc(size_t bytes, int kind);
 GC_API void *GC_generic_malloc_ignore_off_page(size_t bytes, int kind);
 GC_API void *GC_generic_malloc_uncollectable(size_t bytes, int kind);
 GC_API void *GC_generic_or_special_malloc(size_t bytes, int kind);
+GC_API void *GC_debug_generic_or_special_malloc(size_t bytes, int kind, ...);
+#ifdef GC_DEBUG
+#define GC_GENERIC_OR_SPECIAL_MALLOC(bytes, kind) GC_debug_generic_or_special_malloc(bytes, kind, GC_EXTRAS)
+#else
+#define GC_GENERIC_OR_SPECIAL_MALLOC(bytes, kind) GC_generic_or_special_malloc(bytes, kind)
+#endif
 GC_API void *GC_malloc_kind(size_t bytes, int kind);
 GC_API void *GC_malloc_kind_global(size_t bytes, int kind);
 GC_API void GC_generic_malloc_many(size_t bytes, int kind, void **list);
 GC_API int GC_get_kind_and_size(const void *base, size_t *bytes);
+
+/* How an object of that kind is told, in at most GC_TYPE_DESCR_LEN bytes: no effect, since none is. */
+typedef void (*GC_describe_type_fn)(void *object, char *text);
+#define GC_TYPE_DESCR_LEN 40
+GC_API void GC_register_describe_type_fn(int kind, GC_describe_type_fn describe);
 
 GC_API int GC_is_marked(const void *base);
 GC_API void GC_set_mark_bit(const void *base); /* while roots are taken */

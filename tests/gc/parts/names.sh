@@ -1,13 +1,8 @@
 # shellcheck shell=bash disable=SC2154 # (tests/gc.sh has the other names, and reads this)
 # Part of tests/gc.sh: what the library exports, what its files reach of one another, and the lines of code that documents name.
 
-# All names: of the header, and of bdwgc where it is here.
+# All names of bdwgc: of 8.2.2, and of what is here.
 nm -D --defined-only "$room/libmpgc.so" | awk '{print $3}' | sort >"$room/names"
-grep -o '\bGC_[a-z_0-9]*(' "$top/include/mpgc/gc.h" | tr -d '(' | grep -v '^GC_alloc_lock$\|^GC_alloc_unlock$' | sort -u |
-    comm -23 - "$room/names" | grep -v '^GC_\(reachable_here\)$' >"$room/missing"
-is "names of the header" "" "$(cat "$room/missing")"
-sed -n 's/^GC_API [^()]*[ *]\(GC_[a-z_]*\);.*/\1/p' "$top/include/mpgc/gc.h" | sort | comm -23 - "$room/names" >"$room/missing"
-is "variables of the header" "" "$(cat "$room/missing")"
 comm -23 "$top/tests/gc/names_of_bdwgc" "$room/names" >"$room/missing"
 is "names of bdwgc 8.2.2" "" "$(cat "$room/missing")"
 bdw=$(ldconfig -p | awk '/libgc\.so\.1 / {print $NF; exit}')
