@@ -70,7 +70,7 @@ if command -v clang >"$room/said"; then CC=clang build "$room/clang"; else skip 
 
 # Each function, each place of roots, and what stands round the barrier.
 for test in functions settings macros inline limits links frees leaks unmapped finalizers kinds roots barrier crowded kernel signals moments process shadow \
-    threads world loading registering stopping together collector marking stacks; do
+    threads world loading registering stopping joining together collector marking stacks; do
     "${c[@]}" "$top/tests/gc/$test.c" "-L$room" -lmpgc "-Wl,-rpath,$room" -pthread -o "$room/$test" 2>"$room/said"
     is "$test is built" "" "$(cat "$room/said")"
 done
@@ -116,6 +116,7 @@ for setting in GC_MARKERS=4 GC_COLLECTOR_THREAD=1; do
     counted "loading, $setting" env "$setting" "$room/loading" "$room/loaded_calling.so"
 done
 counted "stopping" "$room/stopping"
+counted "joining" "$room/joining"
 "${c[@]}" -no-pie "$top/tests/gc/process.c" "-L$room" -lmpgc "-Wl,-rpath,$room" -o "$room/fixed" 2>"$room/said"
 counted "process, at fixed addresses" "$room/fixed" "$room/loaded.so"
 for test in barrier kernel signals; do
@@ -125,6 +126,16 @@ for test in barrier kernel signals; do
         is "the archive is linked" yes "$(head -n 3 "$room/said")"
     fi
 done
+# The archive in a program that is linked statically.
+if echo 'int main(void) { return 0; }' | cc -static -x c - -o "$room/static" 2>"$room/said"; then
+    for test in functions roots finalizers registering joining; do
+        "${c[@]}" -static "$top/tests/gc/$test.c" "$room/libmpgc.a" -pthread -o "$room/static" 2>"$room/said"
+        is "$test, linked statically, is built" "" "$(cat "$room/said")"
+        counted "$test, linked statically" "$room/static"
+    done
+else
+    skip libc.a "programs that are linked statically"
+fi
 if [ -e /usr/include/gc/gc_mark.h ]; then
     for test in functions settings macros inline links leaks unmapped finalizers kinds registering stacks; do
         cc -std=c11 -O1 -w -DOTHER "$top/tests/gc/$test.c" -lgc -o "$room/${test}_bdw"

@@ -5,12 +5,15 @@
 #include <dlfcn.h>
 #include <stdatomic.h>
 
+HIDDEN uintptr_t mpgc_linked(const char *name);  // in a program that is linked statically (linked.c)
+
 // Threads may look for it at once, and find the same.
 UNSEEN __attribute__((noinline, unused)) static uintptr_t mpgc_next(atomic_uintptr_t *kept, const char *name, const char *sentence)
 {
     uintptr_t found = atomic_load_explicit(kept, memory_order_relaxed);
     if (found) return found;
     found = (uintptr_t)dlsym(RTLD_NEXT, name);
+    if (!found) found = mpgc_linked(name);
     if (!found) mpgc_stop(sentence);
     atomic_store_explicit(kept, found, memory_order_relaxed);
     return found;

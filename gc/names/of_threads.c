@@ -1,7 +1,6 @@
 // What a program asks of threads that needs no more than gc/threads.c answers.
 #include "locked.h"
 #include "paced.h"
-#include <dlfcn.h>
 #include <pthread.h>
 
 int GC_get_stack_base(struct GC_stack_base *base)
@@ -41,8 +40,6 @@ SHOWN int GC_pthread_cancel(pthread_t thread);
 int GC_pthread_cancel(pthread_t thread) { return pthread_cancel(thread); }
 SHOWN int GC_pthread_sigmask(int how, const sigset_t *set, sigset_t *old);
 int GC_pthread_sigmask(int how, const sigset_t *set, sigset_t *old) { return pthread_sigmask(how, set, old); }
-SHOWN void *GC_dlopen(const char *path, int mode);
-void *GC_dlopen(const char *path, int mode) { return dlopen(path, mode); }
 
 // The signal by which threads are stopped, and none by which they go on. They are what they are.
 SHOWN int GC_get_suspend_signal(void);
