@@ -128,11 +128,12 @@ for test in barrier kernel signals; do
 done
 # The archive in a program that is linked statically.
 if echo 'int main(void) { return 0; }' | cc -static -x c - -o "$room/static" 2>"$room/said"; then
-    for test in functions roots finalizers registering joining; do
-        "${c[@]}" -static "$top/tests/gc/$test.c" "$room/libmpgc.a" -pthread -o "$room/static" 2>"$room/said"
+    for test in functions roots finalizers kinds joining threads; do
+        "${c[@]}" -static "$top/tests/gc/$test.c" "$room/libmpgc.a" -pthread -o "$room/static_$test" 2>"$room/said"
         is "$test, linked statically, is built" "" "$(cat "$room/said")"
-        counted "$test, linked statically" "$room/static"
+        [ $test = threads ] || counted "$test, linked statically" "$room/static_$test"
     done
+    shadow "threads, linked statically" env INCREMENTAL=1 "$room/static_threads" 4 2
 else
     skip libc.a "programs that are linked statically"
 fi
