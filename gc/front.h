@@ -41,6 +41,9 @@ enum piece { NO_PIECE, SWEEP, START, CLOSE, BEGIN, ROOTS, MARK, REREAD, DESCRIBE
 // It ends the program, with a sentence.
 HIDDEN _Noreturn void mpgc_stop(const char *sentence);
 
+// The C library's function of this name, or 0: for one that takes its place, where the loader knows of none behind it.
+HIDDEN uintptr_t mpgc_linked(const char *name);
+
 // A collection, and a step of a cycle, of about so many words where it marks; at rest a cycle begins. Each reads all roots itself, and takes
 // nothing that they lead to.
 HIDDEN void mpgc_collect(void);

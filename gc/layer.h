@@ -1,7 +1,7 @@
 // What the audited files of libmpgc know of each other. x86-64, Linux, the GNU C library. Trusted, and not proved.
 //
 // Below them stands the proved heap of mpheap_c, above them a C program that knows bdwgc's gc.h, and may do what it likes. The proofs hold
-// for the program as far as these files keep what mpheap.h asks of a caller. They alone could lose an object or break memory: 3,115 lines
+// for the program as far as these files keep what mpheap.h asks of a caller. They alone could lose an object or break memory: 3,146 lines
 // of code in this folder, without blank ones and comments. Why names/ and kernel/ can't is said in front.h. This is all that they owe, in
 // the order in which they are best read, and the head of each says by which lines it pays:
 //
@@ -17,7 +17,7 @@
 //   requests.c runs.c      "any 64-bit word may be put at any 8-aligned address of an object that is kept at that moment": what is given
 //   reuse.c                out is an object that a request has just made, or the program just freed, once, and frees are the program's
 //   roots.c threads.c      what keeps it: every word by which the program may still reach an object is a root at a collection's end,
-//   locals.c               of each thread
+//   locals.c linked.c      of each thread
 //   collect.c cycle.c      the core's calls in an order that keeps the last three
 //   markers.c rounds.c     the calls of several threads that mark, while the world is stopped
 //   ending.c described.c   of objects that the core doesn't read, each word that points is a root at a cycle's end

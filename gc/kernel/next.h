@@ -5,8 +5,6 @@
 #include <dlfcn.h>
 #include <stdatomic.h>
 
-HIDDEN uintptr_t mpgc_linked(const char *name);  // in a program that is linked statically (linked.c)
-
 // Threads may look for it at once, and find the same.
 UNSEEN __attribute__((noinline, unused)) static uintptr_t mpgc_next(atomic_uintptr_t *kept, const char *name, const char *sentence)
 {

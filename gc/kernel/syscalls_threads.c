@@ -1,15 +1,8 @@
 // The C library's calls that make threads, wait for them and end them, so that a program's threads are known which were made without
 // bdwgc's names for these. Only in libmpgc.so.
-#include "next.h"
+#include "../front.h"
 #include <pthread.h>
 #include <threads.h>
-
-// Behind a library that is loaded the loader knows all that there is.
-uintptr_t mpgc_linked(const char *name)
-{
-    (void)name;
-    return 0;
-}
 
 int GC_pthread_create(pthread_t *thread, const pthread_attr_t *attributes, void *(*start)(void *), void *data);
 int GC_pthread_join(pthread_t thread, void **answer);

@@ -1,12 +1,12 @@
-// The C library's functions that stand behind the layer's own in a program that is linked statically, where the loader knows of none: of some
-// the linker knows there what they are made of. Only in libmpgc.a.
-#include "next.h"
+// The C library's functions that stand behind the layer's own where the loader knows of none: in a program that is linked statically, with
+// libmpgc.a, which takes the place of two of them at most. Of these the linker knows there what they are made of.
+// Counted under threads.
+#include "layer.h"
 #include <errno.h>
-#include <pthread.h>
 #include <string.h>
 #include <threads.h>
 
-// Of the C library, and in no other program. What brings the first there is C11's tss_set, and pthread_join the second.
+// Of the C library, and in such a program alone. What brings the first there is C11's tss_set, and pthread_join the second.
 extern int __pthread_setspecific(pthread_key_t key, const void *value) __attribute__((weak));
 extern int __pthread_clockjoin_ex(pthread_t thread, void **answer, clockid_t clock, const struct timespec *until, bool waits)
     __attribute__((weak));
@@ -14,7 +14,7 @@ HIDDEN int (*const mpgc_brings)(tss_t, void *) = tss_set;
 
 static int clockjoin(pthread_t thread, void **answer, clockid_t clock, const struct timespec *until)
 {
-    return __pthread_clockjoin_ex(thread, answer, clock, until, true);
+    return __pthread_clockjoin_ex ? __pthread_clockjoin_ex(thread, answer, clock, until, true) : ENOSYS;
 }
 static int timedjoin(pthread_t thread, void **answer, const struct timespec *until) { return clockjoin(thread, answer, CLOCK_REALTIME, until); }
 static int tryjoin(pthread_t thread, void **answer)
