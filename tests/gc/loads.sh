@@ -4,9 +4,9 @@
 #
 # The marker tells by one subtraction whether a word lies in the heap's range of addresses: so in its functions each addition of the negated
 # first address to a register W where W was loaded last stands behind the load of a word of the heap. That has to be a plain mov into all of W,
-# of an operand that the function uses for such loads alone (a second look at the word would use it, too); where it does so again, as in another
-# copy of a loop, one of the operand's registers is written between, in the order of the text: so a second such load that the compiler had put
-# far behind its loop would be missed. What registers have behind a jump that is always taken is what they had at the first jump to there. A
+# of an operand that the function uses for such loads alone (a second look at the word would use it, too); and from no such load a way leads to
+# one of the same operand, or to itself, on which none of the operand's registers is written. What registers have behind a jump that is always
+# taken is what they had at the first jump to there. A
 # load whose address is computed from the negated first address, or that of the word behind it, is one of the heap too: the first two words of
 # an object, which are looked at later. And no function of the marker may load a vector, but from its stack. What lies on the stack, or far
 # behind a pointer, is a field of the marker's own. It ends with how many places there are, of which it has to find some.
@@ -33,9 +33,47 @@ awk -v least=$least '
     /^[0-9a-f]+ <.*>:$/ { ends(); name = $2; is_of_marker = name ~ /marker::/ }
     function ends(at) {
         for (at in loaded) if (used[at] != loaded[at]) { print name ": " at " is used " used[at] " times, and " loaded[at] " of them are loads"; failed = 1 }
-        split("", loaded); split("", used); split("", written); split("", last); split("", is_left); split("", left)
+        for (at in loads) look_back(at)
+        split("", loaded); split("", used); split("", loads); split("", is_load); split("", is_left); split("", left)
+        split("", code); split("", place_of); split("", jumps); split("", is_end); split("", writes)
         goes_on = 0
         forget()
+    }
+    # A load of the operand, in this line: a word that is tested in several copies is loaded by one.
+    function load(at, number) {
+        if ((at, number) in is_load) return
+        is_load[at, number]
+        loads[at] = loads[at] " " number
+        loaded[at]++
+        count++
+    }
+    function look_back(at,    lines, registers, many, count, j, k) {
+        split("", operand)
+        count = split(at, registers, /[^%a-z0-9]+/)
+        for (k = 1; k <= count; k++) if (registers[k] ~ /^%/) operand[registers[k]]
+        many = split(loads[at], lines, " ")
+        for (j = 1; j <= many; j++) for (k = 1; k <= many; k++) if (leads(lines[j], lines[k])) {
+            print name ": the word is loaded once more: " code[lines[k]]
+            failed = 1
+        }
+    }
+    # Whether a way leads from behind one line to another on which no register of the operand is written.
+    function leads(from_line, to_line,    todo, seen, many, k) {
+        if (writes[from_line] in operand) return 0
+        many = follow(from_line, todo, 0)
+        while (many > 0) {
+            k = todo[many--]
+            if (k in seen) continue
+            seen[k]
+            if (k == to_line) return 1
+            if (!(writes[k] in operand)) many = follow(k, todo, many)
+        }
+        return 0
+    }
+    function follow(k, todo, many) {
+        if (!(k in is_end) && (k + 1) in code) todo[++many] = k + 1
+        if (k in jumps && jumps[k] in place_of) todo[++many] = place_of[jumps[k]]
+        return many
     }
     function forget() { split("", from); split("", first); split("", begins); split("", line); split("", of_stack) }
     # What registers have where a jump goes to, if it is the first one there: what is written behind a jump that is always taken goes on with it.
@@ -57,12 +95,6 @@ awk -v least=$least '
             if (has[5]) of_stack[had[2]] = 1
         }
     }
-    # The line at which a register of the operand was written last.
-    function renewed(at,    registers, count, k, newest) {
-        count = split(at, registers, /[^%a-z0-9]+/)
-        for (k = 1; k <= count; k++) if (registers[k] ~ /^%/ && written[registers[k]] > newest) newest = written[registers[k]]
-        return newest + 0
-    }
     !is_of_marker || !/^ +[0-9a-f]+:/ { next }
     {
         text = $0
@@ -71,7 +103,13 @@ awk -v least=$least '
         sub(/^ +[0-9a-f]+:[ \t]*/, "", text)
         if (!goes_on && address in is_left) enter(address)
         goes_on = text !~ /^(jmp|ret|ud2)/
-        if (text ~ /^j[a-z]+[ \t]+[0-9a-f]+ </) leave(substr(text, match(text, /[0-9a-f]+ </), RLENGTH - 2))
+        code[NR] = text
+        place_of[address] = NR
+        if (!goes_on) is_end[NR]
+        if (text ~ /^j[a-z]+[ \t]+[0-9a-f]+ </) {
+            jumps[NR] = substr(text, match(text, /[0-9a-f]+ </), RLENGTH - 2)
+            leave(jumps[NR])
+        }
         sub(/ *#.*/, "", text)
         operation = text
         sub(/[ \t].*/, "", operation)
@@ -91,30 +129,22 @@ awk -v least=$least '
     }
     word != "" {
         if (from[word] == "part") wrong("the load before it was none of a whole word")
-        else if (from[word] != "") {
-            if (last[from[word]] && renewed(from[word]) <= last[from[word]]) wrong("the word is loaded once more")
-            loaded[from[word]]++
-            last[from[word]] = line[word]
-            count++
-        }
+        else if (from[word] != "") load(from[word], line[word])
     }
     # A load from an address that is counted from the first one.
     place != "" && operation !~ /^lea/ {
         split(place, part, /[(),]+/)
         if (part[2] in begins || part[3] in begins) {
             if (operation != "mov" || into !~ /^%r/ || into ~ /^%r[0-9]+[dwb]$/) wrong("no whole word is loaded")
-            else if (last[place] && renewed(place) <= last[place]) wrong("the word is loaded once more")
-            loaded[place]++
-            last[place] = NR
-            count++
+            load(place, NR)
         }
     }
-    operation ~ /^(inc|dec|neg|not|pop)/ && text ~ /[ \t]%[a-z0-9]+$/ { written[substr(text, match(text, /%[a-z0-9]+$/))] = NR }
+    operation ~ /^(inc|dec|neg|not|pop)/ && text ~ /[ \t]%[a-z0-9]+$/ { writes[NR] = whole(substr(text, match(text, /%[a-z0-9]+$/))) }
     # What each register has: of a load that is where it was loaded from.
     into != "" && operation !~ /^(cmp|test|bt)/ {
         is_whole = operation == "mov" && into ~ /^%r/ && into !~ /^%r[0-9]+[dwb]$/
         into = whole(into)
-        written[into] = NR
+        writes[NR] = into
         is_field = place ~ /%rsp/ || place ~ /^0x([4-9a-f][0-9a-f]|[0-9a-f][0-9a-f][0-9a-f]+)\(/
         copied = operation == "mov" && text ~ /[ \t]%r[a-z0-9]+,%r[a-z0-9]+$/ ? text : ""
         sub(/^mov[ \t]+/, "", copied)
