@@ -1,8 +1,8 @@
 // When to collect: what a program asks for, and what is due. It answers, and the audited files do.
 //
 // bdwgc's pace, by its free space divisor. So many words have to be asked for between two collections as are in proportion to what the next
-// one will read: twice what is kept of ordinary objects, a quarter of the pointer-free ones, and the roots; half as many before a cycle in
-// small steps. A full collection waits besides until the heap has filled the pages that it may have: where it has grown past them before so
+// one will read: twice what is kept of ordinary objects, a quarter of the pointer-free ones, and the roots; before a cycle in small steps no fewer
+// than 16 pages hold. A full collection waits besides until the heap has filled the pages that it may have: where it has grown past them before so
 // much was asked for, it may have a third more, and 16 pages more at least. What the program has freed itself wasn't asked for, but for an
 // eighth. Pages that it asked for beforehand (GC_expand_hp) are filled first, and a cycle in small steps begins when half of those that are left
 // are. As with bdwgc, a collection also comes where links, finalizers and described objects have become a third more, since a weak table keeps
@@ -14,7 +14,7 @@ enum {
     LEAST = 1024,         // words, however full the heap is
     OWN = 30000,          // of bdwgc's own data, which it reads with the roots
     LEAST_PAGES = 192,    // by which the heap may grow, by the divisor
-    LEAST_MORE = 16,      // and whatever that is, as with bdwgc
+    LEAST_MORE = 16,      // and whatever that is, as with bdwgc; as much is asked for between two cycles in small steps
     BETWEEN_LOOKS = 256,  // words asked for between two looks, where there is something to do
     BETWEEN_WAKES = 4096, // and where the collector's thread does it
     LEAST_ENTRIES = 4096, // of tables, by which they may grow between two collections
@@ -84,6 +84,7 @@ static void set_budget_for(size_t used)
     budget = (2 * kept + pointer_free_in(used) / 4 + mpgc_figures.roots / WORD + OWN) / divisor();
     uint64_t spare = (granted > used ? granted - used : 0) * (PAGE / WORD);
     if (budget < spare / 2) budget = spare / 2;
+    if (makes_steps() && budget < LEAST_MORE * (PAGE / WORD)) budget = LEAST_MORE * (PAGE / WORD);
     if (budget > most) budget = most;
     if (budget < LEAST) budget = LEAST;
     size_t enough = 2 * (used + used / divisor() + budget / (PAGE / WORD)) + more_than(0);

@@ -27,14 +27,15 @@ static NOINLINE void drop(size_t bytes)
 
 static GC_word count(void) { return GC_get_gc_no(); }
 
-/* Whatever the divisor, a heap that is full grows by 16 pages at least: 128 collections come, and by one page 300. In small steps pages bring none. */
-static NOINLINE void one_for_what_it_grows_by(void)
+/* Whatever the divisor, a heap that is full grows by 16 pages at least, and as much is asked for between two cycles in small steps: 128 collections
+ * come while it grows, and by one page 300. */
+static NOINLINE void one_for_16_pages(void (*ask)(size_t bytes), GC_word most)
 {
     GC_word before = count(), divisor = GC_get_free_space_divisor();
     GC_set_free_space_divisor(300);
-    keep(8 * MEGABYTE);
+    ask(8 * MEGABYTE);
     GC_set_free_space_divisor(divisor);
-    CHECK(GC_is_incremental_mode() || count() - before <= 8 * MEGABYTE / (16 * 4096) + 10);
+    CHECK(count() - before <= most);
 }
 
 /* What was asked for and freed again makes neither more of what is asked for nor less of what is kept: behind each collection less is asked for than
@@ -55,7 +56,8 @@ static NOINLINE void none_for_what_is_freed(void)
 int main(void)
 {
     GC_INIT();
-    one_for_what_it_grows_by();
+    one_for_16_pages(drop, 200);
+    one_for_16_pages(keep, 140);
     none_for_what_is_freed();
     return check_ends();
 }
