@@ -69,7 +69,7 @@ if command -v clang >"$room/said"; then CC=clang build "$room/clang"; else skip 
 . "$top/tests/gc/parts/headers.sh"
 
 # Each function, each place of roots, and what stands round the barrier.
-for test in functions settings macros inline limits links frees leaks unmapped finalizers kinds roots barrier crowded kernel signals moments process shadow \
+for test in functions settings macros inline limits links frees pacing leaks unmapped finalizers kinds roots barrier crowded kernel signals moments process shadow \
     threads world loading registering stopping joining together collector marking stacks; do
     "${c[@]}" "$top/tests/gc/$test.c" "-L$room" -lmpgc "-Wl,-rpath,$room" -pthread -o "$room/$test" 2>"$room/said"
     is "$test is built" "" "$(cat "$room/said")"
@@ -85,6 +85,8 @@ counted "links, in small steps" env GC_ENABLE_INCREMENTAL=1 "$room/links"
 counted frees "$room/frees"
 counted "frees, in small steps" env GC_ENABLE_INCREMENTAL=1 "$room/frees"
 counted "frees, beside the collector's thread" env GC_COLLECTOR_THREAD=1 "$room/frees"
+counted pacing "$room/pacing"
+counted "pacing, in small steps" env GC_ENABLE_INCREMENTAL=1 "$room/pacing"
 counted leaks "$room/leaks"
 for test in inline unmapped finalizers kinds registering; do
     counted "$test" "$room/$test"
@@ -138,7 +140,7 @@ else
     skip libc.a "programs that are linked statically"
 fi
 if [ -e /usr/include/gc/gc_mark.h ]; then
-    for test in functions settings macros inline links leaks unmapped finalizers kinds registering stacks; do
+    for test in functions settings macros inline links pacing leaks unmapped finalizers kinds registering stacks; do
         cc -std=c11 -O1 -w -DOTHER "$top/tests/gc/$test.c" -lgc -o "$room/${test}_bdw"
         counted "$test, over bdwgc" "$room/${test}_bdw"
     done

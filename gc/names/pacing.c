@@ -1,11 +1,12 @@
 // When to collect: what a program asks for, and what is due. It answers, and the audited files do.
 //
 // bdwgc's pace, by its free space divisor. So many words have to be asked for between two collections as are in proportion to what the next
-// one will read: twice what is kept of ordinary objects, a quarter of the pointer-free ones, and the roots; half as many before a cycle in
-// small steps. A full collection waits besides until the heap has filled the pages that it may have: where it has grown past them before so
-// much was asked for, it may have a third more. What the program has freed itself wasn't asked for, but for an eighth. Pages that it asked for
-// beforehand (GC_expand_hp) are filled first, and a cycle in small steps begins when half of those that are left are. As with bdwgc, a collection
-// also comes where links, finalizers and described objects have become a third more, since a weak table keeps what is dead until then.
+// one will read: twice what is kept of ordinary objects, a quarter of the pointer-free ones, and the roots; before a cycle in small steps no fewer
+// than 16 pages hold. A full collection waits besides until the heap has filled the pages that it may have: where it has grown past them before so
+// much was asked for, it may have a third more, and 16 pages more at least. What the program has freed itself wasn't asked for, but for an
+// eighth. Pages that it asked for beforehand (GC_expand_hp) are filled first, and a cycle in small steps begins when half of those that are left
+// are. As with bdwgc, a collection also comes where links, finalizers and described objects have become a third more, since a weak table keeps
+// what is dead until then.
 #include "paced.h"
 #include <stdlib.h>
 
@@ -13,6 +14,7 @@ enum {
     LEAST = 1024,         // words, however full the heap is
     OWN = 30000,          // of bdwgc's own data, which it reads with the roots
     LEAST_PAGES = 192,    // by which the heap may grow, by the divisor
+    LEAST_MORE = 16,      // and whatever that is, as with bdwgc; as much is asked for between two cycles in small steps
     BETWEEN_LOOKS = 256,  // words asked for between two looks, where there is something to do
     BETWEEN_WAKES = 4096, // and where the collector's thread does it
     LEAST_ENTRIES = 4096, // of tables, by which they may grow between two collections
@@ -22,6 +24,7 @@ enum {
 
 static uint64_t budget;               // words to ask for before the next collection
 static uint64_t left_over;            // that stood in runs behind the last one: as many mostly stand there always, so that they bring none
+static uint64_t kept;                 // words of ordinary objects that the last one left, or more
 static size_t allowed;                // pages, which the heap fills before it
 static size_t granted;                // at least so many, since the program asked for them
 static size_t full;                   // the same, or as many as it has already
@@ -45,37 +48,46 @@ bool mpgc_rest(void)
 
 static uint64_t divisor(void) { return GC_free_space_divisor ? GC_free_space_divisor : 1; }
 
-// So many more are allowed where these were too few.
-static size_t more_pages(void)
+// So many more than this many are allowed where these were too few.
+static size_t more_than(size_t pages)
 {
-    size_t more = (allowed > LEAST_PAGES ? allowed : LEAST_PAGES) / divisor();
-    return more > 0 ? more : 1;
+    size_t more = (pages > LEAST_PAGES ? pages : LEAST_PAGES) / divisor();
+    return more > LEAST_MORE ? more : LEAST_MORE;
 }
 
-// Words of pointer-free objects that the last collection left, of so many pages in use.
-static uint64_t pointer_free_in(size_t used)
+static uint64_t words_of(size_t used, enum page_kind kind)
 {
-    size_t of_them = mpgc_pages_of(POINTER_FREE), all = mpgc_pages_of(ORDINARY) + of_them;
-    return all == 0 ? 0 : (uint64_t)used * of_them / all * (PAGE / WORD);
+    size_t pages = mpgc_pages_of(kind);
+    return (uint64_t)(pages < used ? pages : used) * (PAGE / WORD);
 }
 
-// Words that the last collection read, of so many pages in use. A page that was read more than once counts as often, so these are the most.
+// Words of ordinary objects that the last collection read, of so many pages in use. A page that was read more than once counts as often, and one
+// that is free counts as what it was last given to, so these are the most.
 static uint64_t marked_in(size_t used)
 {
-    uint64_t most = (uint64_t)used * (PAGE / WORD) - pointer_free_in(used);
+    uint64_t most = words_of(used, ORDINARY);
     return mpgc_figures.marked < most ? mpgc_figures.marked : most;
+}
+
+// And of pointer-free ones, which it left.
+static uint64_t pointer_free_in(size_t used)
+{
+    uint64_t most = words_of(used, POINTER_FREE), left = (uint64_t)used * (PAGE / WORD) - kept;
+    return left < most ? left : most;
 }
 
 static void set_budget_for(size_t used)
 {
     uint64_t room = (mpgc_figures.limit > used ? mpgc_figures.limit - used : 0) * (PAGE / WORD);
     uint64_t most = makes_steps() ? room / 2 : room * 3 / 4;  // a cycle needs room while it marks
-    budget = (2 * marked_in(used) + pointer_free_in(used) / 4 + mpgc_figures.roots / WORD + OWN) / divisor();
+    kept = marked_in(used);
+    budget = (2 * kept + pointer_free_in(used) / 4 + mpgc_figures.roots / WORD + OWN) / divisor();
     uint64_t spare = (granted > used ? granted - used : 0) * (PAGE / WORD);
     if (budget < spare / 2) budget = spare / 2;
+    if (makes_steps() && budget < LEAST_MORE * (PAGE / WORD)) budget = LEAST_MORE * (PAGE / WORD);
     if (budget > most) budget = most;
     if (budget < LEAST) budget = LEAST;
-    size_t enough = 2 * (used + used / divisor() + budget / (PAGE / WORD)) + LEAST_PAGES / divisor();
+    size_t enough = 2 * (used + used / divisor() + budget / (PAGE / WORD)) + more_than(0);
     if (allowed > enough) allowed = enough;
     if (allowed < granted) allowed = granted;
 }
@@ -98,10 +110,19 @@ void mpgc_set_budget(void)
     is_settled = false;
 }
 
-// What was asked for since is no part of what was kept.
+static uint64_t asked_since(void) { return mpgc_figures.since > left_over ? mpgc_figures.since - left_over : 0; }
+
+// Of what was asked for since, what wasn't freed. By this pages fill; but as with bdwgc a collection is due by no less than an eighth of it.
+static uint64_t still_there(void)
+{
+    uint64_t since = asked_since(), freed = mpgc_figures.freed;
+    return since > freed ? since - freed : 0;
+}
+
+// What was asked for since, and wasn't freed, is no part of what was kept.
 static void settle(void)
 {
-    size_t used = mpgc_used_pages(), newer = mpgc_figures.since / (PAGE / WORD);
+    size_t used = mpgc_used_pages(), newer = still_there() / (PAGE / WORD);
     set_budget_for(used > newer ? used - newer : 0);
 }
 
@@ -117,15 +138,6 @@ void mpgc_grant(size_t pages)
 
 // No collection begins but those that the program asks for.
 bool mpgc_is_off(void) { return GC_dont_gc || GC_get_disable_automatic_collection(); }
-
-static uint64_t asked_since(void) { return mpgc_figures.since > left_over ? mpgc_figures.since - left_over : 0; }
-
-// Of what was asked for since, what wasn't freed. By this pages fill; but as with bdwgc a collection is due by no less than an eighth of it.
-static uint64_t still_there(void)
-{
-    uint64_t since = asked_since(), freed = mpgc_figures.freed;
-    return since > freed ? since - freed : 0;
-}
 
 static uint64_t asked_for(void)
 {
@@ -148,11 +160,11 @@ static bool has_filled_its_pages(void)
     if (is_ripe && mpgc_figures.since < unfilled_until) return false;
     size_t used = mpgc_used_pages(), most = mpgc_figures.limit / 4 * 3;
     if (!is_ripe && used > full) {
-        while (allowed < used) allowed += more_pages();
+        while (allowed < used) allowed += more_than(allowed);
         full = allowed;
     }
     is_ripe = true;
-    uint64_t asked = mpgc_figures.marked + still_there(), room = allowed * (PAGE / WORD);
+    uint64_t asked = kept + still_there(), room = allowed * (PAGE / WORD);
     if (used > full || used >= most || asked >= room) return true;
     unfilled_until = mpgc_figures.since + words_before((full < most ? full : most) - used, room - asked);
     return false;
