@@ -404,6 +404,7 @@ void mpgc_scan_threads(void (*scan)(const char *from, const char *to), void (*pu
         if (one->state == STARTING || one->state == ENDED) continue;
         mpgc_push_runs(one, push);
         scan_stack(one, scan);
+        mpgc_scan_room_of_locals(one, scan);
         mpgc_scan_keys(one, scan);
     }
 }
