@@ -24,7 +24,7 @@ enum { KEYS = 1024 };  // PTHREAD_KEYS_MAX
 static _Thread_local void **keys __attribute__((tls_model("initial-exec")));
 
 // By a call that answers EFAULT if not, and else EINVAL.
-static bool can_be_read(const char *at)
+bool mpgc_can_be_read(const char *at)
 {
     enum { NO_WAY = -1, BYTES = 8 };
     return syscall(SYS_rt_sigprocmask, NO_WAY, at, NULL, BYTES) == 0 || errno != EFAULT;
@@ -34,7 +34,7 @@ static bool can_be_read(const char *at)
 static void scan_as_far_as_it_goes(const char *from, const char *to, void (*scan)(const char *from, const char *to))
 {
     int kept = errno;
-    while (from < to && can_be_read(from)) {
+    while (from < to && mpgc_can_be_read(from)) {
         const char *end = (const char *)(((uintptr_t)from & ~(PAGE - 1)) + PAGE);
         scan(from, end < to ? end : to);
         from = end;
@@ -83,7 +83,7 @@ __attribute__((constructor)) static void find_room(void)
     room.pointer = room.to = __builtin_thread_pointer();
     room.from = room.to - bytes_of_room();
     dl_iterate_phdr(ends_below, NULL);
-    while (room.from < room.to && !can_be_read(room.from)) room.from = (const char *)(((uintptr_t)room.from & ~(PAGE - 1)) + PAGE);
+    while (room.from < room.to && !mpgc_can_be_read(room.from)) room.from = (const char *)(((uintptr_t)room.from & ~(PAGE - 1)) + PAGE);
 }
 
 void mpgc_scan_room_of_locals(const struct thread *thread, void (*scan)(const char *from, const char *to))
@@ -102,6 +102,7 @@ void mpgc_set_keys(struct thread *thread)
 {
     thread->pointer = __builtin_thread_pointer();
     thread->keys = &keys;
+    if (thread->is_late) thread->late_keys = keys;
 }
 
 // Not by malloc, which may itself set a key.
@@ -120,15 +121,23 @@ UNSEEN int mpgc_set_own_key(pthread_key_t key, const void *value)
 
 UNSEEN SHOWN int pthread_setspecific(pthread_key_t key, const void *value)
 {
-    if (value && !keys) keys = made();
+    if (value && !keys) {
+        keys = made();
+        if (mpgc_self && mpgc_self->is_late) mpgc_self->late_keys = keys;
+    }
     if (keys && key < KEYS) keys[key] = (void *)(uintptr_t)value;
     return mpgc_set_own_key(key, value);
+}
+
+void mpgc_free_keys(void **room)
+{
+    if (room) munmap(room, KEYS * sizeof *room);
 }
 
 // This thread ends, and is known no more.
 void mpgc_drop_keys(void)
 {
-    if (keys) munmap(keys, KEYS * sizeof *keys);
+    mpgc_free_keys(keys);
     keys = NULL;
 }
 

@@ -74,7 +74,7 @@ if command -v clang >"$room/said"; then CC=clang build "$room/clang"; else skip 
 . "$top/tests/gc/parts/names.sh"
 
 # Each function, each place of roots, and what stands round the barrier.
-for test in functions settings macros limits links frees leaks unmapped finalizers kinds roots barrier crowded kernel signals moments process shadow \
+for test in functions settings macros limits links frees leaks unmapped finalizers kinds roots barrier crowded kernel signals handlers moments process shadow \
     threads world loading registering stopping together collector marking stacks; do
     "${c[@]}" "$top/tests/gc/$test.c" "-L$room" -lmpgc "-Wl,-rpath,$room" -pthread -o "$room/$test" 2>"$room/said"
     is "$test is built" "" "$(cat "$room/said")"
@@ -101,6 +101,9 @@ counted barrier "$room/barrier"
 counted crowded "$room/crowded"
 counted "kernel" "$room/kernel"
 counted "signals" "$room/signals"
+for setting in FULL GC_ENABLE_INCREMENTAL GC_COLLECTOR_THREAD; do
+    counted "handlers, $setting" env $setting=1 "$room/handlers"
+done
 counted "moments" "$room/moments"
 "${c[@]}" -shared -fPIC "$top/tests/gc/loaded.c" -o "$room/loaded.so" 2>"$room/said"
 is "an object to be loaded is built" "" "$(cat "$room/said")"
