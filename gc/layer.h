@@ -1,7 +1,7 @@
 // What the audited files of libmpgc know of each other. x86-64, Linux, the GNU C library. Trusted, and not proved.
 //
 // Below them stands the proved heap of mpheap_c, above them a C program that knows bdwgc's gc.h, and may do what it likes. The proofs hold
-// for the program as far as these files keep what mpheap.h asks of a caller. They alone could lose an object or break memory: 3,146 lines
+// for the program as far as these files keep what mpheap.h asks of a caller. They alone could lose an object or break memory: 3,230 lines
 // of code in this folder, without blank ones and comments. Why names/ and kernel/ can't is said in front.h. This is all that they owe, in
 // the order in which they are best read, and the head of each says by which lines it pays:
 //
@@ -65,6 +65,7 @@ struct thread {
     volatile sig_atomic_t takes_back;      // what it frees (reuse.c), or its runs change
     uint64_t taken_back;                   // so many words since the last collection: a figure alone
     bool is_detached;                      // nobody will ask what it answers
+    bool is_late;                          // it has said goodbye before, and won't again
     unsigned holders;                      // so many are asking for it
     unsigned goodbyes;
     atomic_uint stop;                      // the last stop to which it has answered (world.c)
@@ -75,6 +76,7 @@ struct thread {
     const char *alt_top;                   // the end of the signal's stack on which `top` lies, if it does
     char *pointer;                         // by which its thread-local data is found (locals.c)
     void ***keys;                          // what it has by pthread_setspecific
+    void **late_keys;                      // the same of one that is late: this room goes with the record
     struct pin { struct pages { size_t from, to; } pages; const char *frame; } pinned[PINS];  // that the kernel may write to, by whose call
     volatile size_t pins;
     volatile sig_atomic_t changes_pins;
@@ -107,6 +109,7 @@ struct layer {
     struct thread first;               // the thread that opened the heap
     struct thread *threads;            // all that are known
     bool is_threaded;                  // there was ever a second one
+    bool are_some_gone;                // threads that ended without a word, and are written down still
 };
 HIDDEN extern struct layer mpgc;
 
@@ -227,10 +230,13 @@ HIDDEN bool mpgc_is_in_run(uintptr_t base);
 // Counted under threads.
 // locals.c
 HIDDEN void mpgc_scan_locals(const struct thread *thread, size_t module, size_t bytes, void (*scan)(const char *from, const char *to));
+HIDDEN bool mpgc_can_be_read(const char *at);
+HIDDEN void mpgc_scan_room_of_locals(const struct thread *thread, void (*scan)(const char *from, const char *to));
 HIDDEN void mpgc_scan_keys(const struct thread *thread, void (*scan)(const char *from, const char *to));
 HIDDEN void mpgc_set_keys(struct thread *thread);
 HIDDEN int mpgc_set_own_key(pthread_key_t key, const void *value);
 HIDDEN void mpgc_drop_keys(void);
+HIDDEN void mpgc_free_keys(void **room);
 
 // Counted under roots, links, finalizers and kinds.
 // Where the lock is held: whether the object is marked.

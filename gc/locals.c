@@ -4,11 +4,15 @@
 //
 // The loader tells where this thread's data is, and not where another's. But each thread has a vector of its modules' data behind its own
 // pointer, in the same place since the first C library for threads of this kind. (Most of it lies at the end of the stack too, but not for
-// the first thread, and not what was loaded later.) Keys are in no documented place: so what is set is written down here too.
+// the first thread, and not what was loaded later.) The vector needn't tell of an object that was loaded later and was compiled for the room
+// that each thread has kept for it from its start: so in the first thread that is read too. Keys are in no documented place: so what is set
+// is written down here too.
 // Counted under threads.
 #include "layer.h"
 #include "kernel/next.h"
 #include <errno.h>
+#include <link.h>
+#include <string.h>
 #include <sys/mman.h>
 #include <sys/syscall.h>
 #include <unistd.h>
@@ -20,7 +24,7 @@ enum { KEYS = 1024 };  // PTHREAD_KEYS_MAX
 static _Thread_local void **keys __attribute__((tls_model("initial-exec")));
 
 // By a call that answers EFAULT if not, and else EINVAL.
-static bool can_be_read(const char *at)
+bool mpgc_can_be_read(const char *at)
 {
     enum { NO_WAY = -1, BYTES = 8 };
     return syscall(SYS_rt_sigprocmask, NO_WAY, at, NULL, BYTES) == 0 || errno != EFAULT;
@@ -30,7 +34,7 @@ static bool can_be_read(const char *at)
 static void scan_as_far_as_it_goes(const char *from, const char *to, void (*scan)(const char *from, const char *to))
 {
     int kept = errno;
-    while (from < to && can_be_read(from)) {
+    while (from < to && mpgc_can_be_read(from)) {
         const char *end = (const char *)(((uintptr_t)from & ~(PAGE - 1)) + PAGE);
         scan(from, end < to ? end : to);
         from = end;
@@ -50,6 +54,43 @@ void mpgc_scan_locals(const struct thread *thread, size_t module, size_t bytes, 
         scan(data, data + bytes);
 }
 
+// What the C library keeps free beside the first thread's data: it lies below that of all objects that came with the program.
+static struct { const char *pointer, *from, *to; } room;
+
+static int ends_below(struct dl_phdr_info *object, size_t size, void *unused)
+{
+    const char *data = size >= sizeof *object ? object->dlpi_tls_data : NULL;
+    (void)unused;
+    if (data && data >= room.from && data < room.to) room.to = data;
+    return 0;
+}
+
+// Of how many bytes it is with that data, and some more: as the loader tells sanitizers. 0 where it doesn't.
+static size_t bytes_of_room(void)
+{
+    void (*tell)(size_t *bytes, size_t *alignment), *found = dlsym(RTLD_DEFAULT, "_dl_get_tls_static_info");
+    size_t bytes = 0, alignment;
+    _Static_assert(sizeof found == sizeof tell, "functions have other pointers than data");
+    memcpy(&tell, &found, sizeof tell);
+    if (found) tell(&bytes, &alignment);
+    return bytes;
+}
+
+// Another thread's lies at the end of its stack.
+__attribute__((constructor)) static void find_room(void)
+{
+    if (syscall(SYS_gettid) != getpid()) return;
+    room.pointer = room.to = __builtin_thread_pointer();
+    room.from = room.to - bytes_of_room();
+    dl_iterate_phdr(ends_below, NULL);
+    while (room.from < room.to && !mpgc_can_be_read(room.from)) room.from = (const char *)(((uintptr_t)room.from & ~(PAGE - 1)) + PAGE);
+}
+
+void mpgc_scan_room_of_locals(const struct thread *thread, void (*scan)(const char *from, const char *to))
+{
+    if (thread->pointer == room.pointer && room.from < room.to) scan(room.from, room.to);
+}
+
 void mpgc_scan_keys(const struct thread *thread, void (*scan)(const char *from, const char *to))
 {
     const char *all = (const char *)*thread->keys;
@@ -61,6 +102,7 @@ void mpgc_set_keys(struct thread *thread)
 {
     thread->pointer = __builtin_thread_pointer();
     thread->keys = &keys;
+    if (thread->is_late) thread->late_keys = keys;
 }
 
 // Not by malloc, which may itself set a key.
@@ -79,15 +121,23 @@ UNSEEN int mpgc_set_own_key(pthread_key_t key, const void *value)
 
 UNSEEN SHOWN int pthread_setspecific(pthread_key_t key, const void *value)
 {
-    if (value && !keys) keys = made();
+    if (value && !keys) {
+        keys = made();
+        if (mpgc_self && mpgc_self->is_late) mpgc_self->late_keys = keys;
+    }
     if (keys && key < KEYS) keys[key] = (void *)(uintptr_t)value;
     return mpgc_set_own_key(key, value);
+}
+
+void mpgc_free_keys(void **room)
+{
+    if (room) munmap(room, KEYS * sizeof *room);
 }
 
 // This thread ends, and is known no more.
 void mpgc_drop_keys(void)
 {
-    if (keys) munmap(keys, KEYS * sizeof *keys);
+    mpgc_free_keys(keys);
     keys = NULL;
 }
 

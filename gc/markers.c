@@ -152,7 +152,11 @@ static void let_begin(void)
         if (wait_while(&here, seen, &most) != 0 && errno == ETIMEDOUT) return;
 }
 
-static bool may_come(void) { return !is_tried && alive == 0 && mpgc.is_threaded && mpgc.size >= LEAST_PAGES; }
+// Nobody would tell them to go where a thread asks for them that may be the last, and ends without a word.
+static bool may_come(void)
+{
+    return !is_tried && alive == 0 && mpgc.is_threaded && mpgc.size >= LEAST_PAGES && !mpgc_self->is_late;
+}
 
 // Before the world is stopped, unless the program has stopped it. Where a thread or memory was refused, there are fewer markers or none, and
 // it isn't tried again.

@@ -13,6 +13,8 @@
 #include "layer.h"
 #include <link.h>
 #include <stdlib.h>
+#include <sys/syscall.h>
+#include <unistd.h>
 
 #ifndef __x86_64__
 #error "libmpgc knows the registers of x86-64 alone"
@@ -146,23 +148,33 @@ static int scan_object(struct dl_phdr_info *object, size_t size, void *count)
     return 0;
 }
 
+// Where this thread handles a signal on a stack of its own for these: that stack's end.
+static const char *end_of_signals_stack(void)
+{
+    stack_t alt;
+    bool is_there = syscall(SYS_sigaltstack, NULL, &alt) == 0 && (alt.ss_flags & SS_ONSTACK);
+    return is_there ? (const char *)alt.ss_sp + alt.ss_size : NULL;
+}
+
 // Does the work with the registers saved, and with the stack's top where the program called in: what the layer and the core leave on the
 // stack below are no roots. Never inlined, so that the saved registers lie below all that the program has. The program may have asked for
-// a larger stack since: so this is asked once more, before the world is stopped, but on a stack of the program's own.
+// a larger stack since: so this is asked once more, before the world is stopped, but on a stack of the program's own, or a signal's.
 __attribute__((noinline)) bool mpgc_with_registers(bool (*work)(void *), void *data)
 {
     uint64_t saved[6] = { 0 };
     struct thread *self = mpgc_self;
-    const char *outer = self->top;
+    const char *outer = self->top, *outer_alt = self->alt_top, *alt_top = end_of_signals_stack();
     __asm__ volatile(
         "movq %%r15, 0(%0)\n\tmovq %%r14, 8(%0)\n\tmovq %%r13, 16(%0)\n\t"
         "movq %%r12, 24(%0)\n\tmovq %%rbp, 32(%0)\n\tmovq %%rbx, 40(%0)"
         : : "r"(saved) : "memory");
-    bool is_below = self->low && (const char *)saved < self->low;
+    bool is_below = !alt_top && self->low && (const char *)saved < self->low;
     if (is_below && mpgc_stack_bottom() == self->bottom) mpgc_find_stack(&self->low, &self->bottom);
     self->top = (const char *)saved;
+    self->alt_top = alt_top;
     bool answer = work(data);
     self->top = outer;
+    self->alt_top = outer_alt;
     return answer;
 }
 

@@ -23,6 +23,7 @@ _Thread_local struct thread *mpgc_self;
 
 static pthread_key_t key;
 enum { LAST_ROUND = 3 };  // of destructors of keys, of which the C library makes 4
+static _Thread_local bool has_said_goodbye __attribute__((tls_model("initial-exec")));
 
 // ---- Records ----
 
@@ -39,6 +40,7 @@ static void unlink_record(struct thread *record)
     mpgc_figures.total += record->taken_back;
     while (*at && *at != record) at = &(*at)->next;
     if (*at) *at = record->next;
+    mpgc_free_keys(record->late_keys);
     if (record != &mpgc.first) free(record);
 }
 
@@ -129,6 +131,7 @@ void mpgc_know_this(const struct GC_stack_base *base)
 {
     struct thread *self = new_record();
     if (!mpgc.is_threaded) mpgc_stop("a thread that nobody told of calls in: call GC_allow_register_threads first");
+    self->is_late = has_said_goodbye;
     find_this(self, base);
     self->id = pthread_self();
     mpgc_lock();
@@ -188,11 +191,24 @@ static void unlink_if_over(struct thread *record)
     if (record->state == ENDED && record->is_detached && record->holders == 0) unlink_record(record);
 }
 
+// Those that ended without a word. The lock is held, and the world isn't stopped.
+static void unlink_gone(void)
+{
+    if (!mpgc.are_some_gone) return;
+    mpgc.are_some_gone = false;
+    for (struct thread *one = mpgc.threads, *next; one; one = next) {
+        next = one->next;
+        unlink_if_over(one);
+    }
+}
+
 static void forget(struct thread *self)
 {
     mpgc_lock();
+    unlink_gone();
     mpgc_empty_runs(self);
     self->state = ENDED;
+    self->late_keys = NULL;  // they are this thread's still
     mpgc_self = NULL;
     mpgc_drop_pins(self);
     unlink_if_over(self);
@@ -206,6 +222,7 @@ static void on_goodbye(void *record)
 {
     struct thread *self = record;
     if (self != mpgc_self) return;
+    has_said_goodbye = true;
     become(RUNNING);  // it may have ended in a function that GC_do_blocking called
     if (++self->goodbyes < LAST_ROUND) {
         (void)mpgc_set_own_key(key, self);
@@ -368,19 +385,22 @@ bool mpgc_is_last_thread(void)
 {
     mpgc_lock();
     const struct thread *one = mpgc.threads;
-    while (one && (one == mpgc_self || one->state == ENDED)) one = one->next;
+    while (one && (one == mpgc_self || one->is_late || one->state == ENDED)) one = one->next;
     mpgc_unlock();
     return !one;
 }
 
 // ---- What they have ----
 
-// The lowest place of a stack that is mapped: where the thread was on it isn't known. No page is touched.
+// The lowest place of a stack that is there: where the thread was on it isn't known. What isn't mapped is left alone, since it would be from
+// then on; and a stack of the program's own may end with a page that can't be read.
 static const char *lowest(const char *low, const char *bottom)
 {
     char *at = (char *)((uintptr_t)bottom & ~(PAGE - 1));
     unsigned char answer;
-    while (at > low && mincore(at - PAGE, PAGE, &answer) == 0) at -= PAGE;
+    int kept = errno;
+    while (at > low && mincore(at - PAGE, PAGE, &answer) == 0 && mpgc_can_be_read(at - WORD)) at -= PAGE;
+    errno = kept;
     return at;
 }
 
@@ -404,6 +424,7 @@ void mpgc_scan_threads(void (*scan)(const char *from, const char *to), void (*pu
         if (one->state == STARTING || one->state == ENDED) continue;
         mpgc_push_runs(one, push);
         scan_stack(one, scan);
+        mpgc_scan_room_of_locals(one, scan);
         mpgc_scan_keys(one, scan);
     }
 }

@@ -45,20 +45,22 @@ static void wake(_Atomic uint32_t *word) { syscall(SYS_futex, word, FUTEX_WAKE_P
 
 // This thread, of which all registers lie above this frame, waits until the world goes on. Signals are blocked. Whether it is suspended is
 // asked in one turn, since it becomes so in a stop; and if it is resumed in another one it waits for that one's end.
-__attribute__((noinline)) static void wait_here(struct thread *self)
+__attribute__((noinline)) static void wait_here(struct thread *self, const char *alt_top)
 {
     const char *top = __builtin_frame_address(0);
     uint32_t now = turn;
     if (now % 2 == 0 || self->stop == now || self->state != RUNNING) return;
-    const char *outer = self->top;
+    const char *outer = self->top, *outer_alt = self->alt_top;
     self->stop = now;
     self->top = top;
+    self->alt_top = alt_top;
     self->stands = true;
     answers++;
     wake(&answers);
     for (uint32_t seen = turn; self->is_suspended || seen == self->stop || seen != turn; seen = turn) wait_while(&turn, seen, NULL);
     self->stands = false;
     self->top = outer;
+    self->alt_top = outer_alt;
 }
 
 // Whether a thread that was stopped hasn't gone on yet, though it may. The lock is held.
@@ -86,9 +88,7 @@ static void on_suspend(int number, siginfo_t *info, void *context)
     if (!self) return;
     __builtin_unwind_init();  // saves the registers that a call keeps
     bool is_on_alt = !(alt->ss_flags & SS_DISABLE) && here >= low && here < low + alt->ss_size;
-    self->alt_top = is_on_alt ? low + alt->ss_size : NULL;
-    wait_here(self);
-    self->alt_top = NULL;
+    wait_here(self, is_on_alt ? low + alt->ss_size : NULL);
     errno = kept;
 }
 
@@ -117,12 +117,22 @@ void mpgc_make_stoppable(void)
     if (syscall(SYS_rt_sigprocmask, SIG_UNBLOCK, &only, NULL, BYTES) != 0) mpgc_stop("the kernel refused to unblock a signal");
 }
 
+// The process's first thread is there still for the kernel when it has ended, if others go on; but its list of locks that are held is gone.
+static bool has_gone(const struct thread *one)
+{
+    void *list = &list;
+    size_t bytes;
+    return one->number == (uint32_t)getpid() && syscall(SYS_get_robust_list, one->number, &list, &bytes) == 0 && !list;
+}
+
 // Where it has ended without a word, the kernel knows it no more, and it has nothing.
 static bool is_told(struct thread *one, int signal)
 {
-    if (syscall(SYS_tgkill, getpid(), one->number, signal) == 0) return true;
-    if (errno != ESRCH) mpgc_stop("the kernel refused to signal a thread");
+    bool is_there = syscall(SYS_tgkill, getpid(), one->number, signal) == 0;
+    if (!is_there && errno != ESRCH) mpgc_stop("the kernel refused to signal a thread");
+    if (is_there && !(signal == 0 && has_gone(one))) return true;
     one->state = ENDED;
+    mpgc.are_some_gone = true;
     return false;
 }
 

@@ -69,8 +69,8 @@ if command -v clang >"$room/said"; then CC=clang build "$room/clang"; else skip 
 . "$top/tests/gc/parts/headers.sh"
 
 # Each function, each place of roots, and what stands round the barrier.
-for test in functions settings macros inline limits links frees pacing leaks unmapped finalizers kinds roots barrier crowded kernel signals moments process shadow \
-    threads world loading registering stopping joining together collector marking stacks; do
+for test in functions settings macros inline limits links frees pacing leaks unmapped finalizers kinds roots barrier crowded kernel signals handlers moments \
+    process shadow threads world loading registering stopping joining together collector marking stacks; do
     "${c[@]}" "$top/tests/gc/$test.c" "-L$room" -lmpgc "-Wl,-rpath,$room" -pthread -o "$room/$test" 2>"$room/said"
     is "$test is built" "" "$(cat "$room/said")"
 done
@@ -98,6 +98,9 @@ counted barrier "$room/barrier"
 counted crowded "$room/crowded"
 counted "kernel" "$room/kernel"
 counted "signals" "$room/signals"
+for setting in FULL GC_ENABLE_INCREMENTAL GC_COLLECTOR_THREAD; do
+    counted "handlers, $setting" env $setting=1 "$room/handlers"
+done
 counted "moments" "$room/moments"
 "${c[@]}" -shared -fPIC "$top/tests/gc/loaded.c" -o "$room/loaded.so" 2>"$room/said"
 is "an object to be loaded is built" "" "$(cat "$room/said")"
@@ -106,12 +109,15 @@ counted "process" "$room/process" "$room/loaded.so"
 is "an object with thread-local data is built" "" "$(cat "$room/said")"
 "${c[@]}" -DROOM=9000000 -shared -fPIC "$top/tests/gc/loaded_local.c" -o "$room/loaded_larger.so" 2>"$room/said"
 is "an object with much thread-local data is built" "" "$(cat "$room/said")"
+"${c[@]}" -DROOM=1 -ftls-model=initial-exec -shared -fPIC "$top/tests/gc/loaded_local.c" -o "$room/loaded_initial.so" 2>"$room/said"
+is "an object with thread-local data in the room for it is built" "" "$(cat "$room/said")"
 for setting in FULL INCREMENTAL GC_COLLECTOR_THREAD; do
     counted "stacks, $setting" env $setting=1 "$room/stacks"
     counted "stacks of one thread, $setting" env $setting=1 ALONE=1 "$room/stacks"
 done
-counted "world" "$room/world" "$room/loaded_local.so" "$room/loaded_larger.so"
-counted "world, in small steps" env INCREMENTAL=1 "$room/world" "$room/loaded_local.so" "$room/loaded_larger.so"
+locals=("$room/loaded_local.so" "$room/loaded_larger.so" "$room/loaded_initial.so")
+counted "world" "$room/world" "${locals[@]}"
+counted "world, in small steps" env INCREMENTAL=1 "$room/world" "${locals[@]}"
 "${c[@]}" -shared -fPIC "$top/tests/gc/loaded_calling.c" -o "$room/loaded_calling.so" 2>"$room/said"
 is "an object that calls while it is loaded is built" "" "$(cat "$room/said")"
 for setting in GC_MARKERS=4 GC_COLLECTOR_THREAD=1; do
@@ -177,7 +183,7 @@ counted "stopping, over that core" env "LD_LIBRARY_PATH=$room/checking" "$room/s
 for test in functions settings links finalizers kinds registering roots barrier kernel; do
     counted "$test, beside the collector's thread" env GC_COLLECTOR_THREAD=1 "$room/$test"
 done
-counted "world, beside the collector's thread" env GC_COLLECTOR_THREAD=1 "$room/world" "$room/loaded_local.so" "$room/loaded_larger.so"
+counted "world, beside the collector's thread" env GC_COLLECTOR_THREAD=1 "$room/world" "${locals[@]}"
 if command -v objdump >"$room/said"; then
     "$top/tests/gc/loads.sh" "${MPHEAP_ARCHIVE:-$room/libmpheap.a}" >"$room/said" 2>&1
     is "each word of the heap is read by one load" 0 "$?"

@@ -3,15 +3,18 @@
 #include <stdio.h>
 #include <stdlib.h>
 
-// Bytes, with k, M or G behind them; or the fallback, where the variable isn't set or says nothing.
-static size_t bytes_of(const char *name, size_t fallback)
+// Bytes, with k, M or G behind them; or 0, where the variable isn't set or says something else.
+static size_t bytes_of(const char *name)
 {
     const char *text = getenv(name);
     char *end;
-    if (!text) return fallback;
+    if (!text) return 0;
     size_t number = strtoull(text, &end, 10);
-    if (end == text || number == 0) return fallback;
     unsigned shift = *end == 'k' || *end == 'K' ? 10 : *end == 'm' || *end == 'M' ? 20 : *end == 'g' || *end == 'G' ? 30 : 0;
+    if (end == text || end[shift != 0] != 0) {
+        GC_get_warn_proc()("GC Warning: Bad size in the environment (%lu..) - ignoring it.\n", number);
+        return 0;
+    }
     return number > SIZE_MAX >> shift ? SIZE_MAX : number << shift;
 }
 
@@ -32,10 +35,10 @@ static void print_figures(void)
 // The heap has just been opened.
 void mpgc_read_environment(void)
 {
-    size_t most = bytes_of("GC_MAXIMUM_HEAP_SIZE", 0), least = bytes_of("GC_INITIAL_HEAP_SIZE", 0);
+    size_t most = bytes_of("GC_MAXIMUM_HEAP_SIZE"), least = bytes_of("GC_INITIAL_HEAP_SIZE"), divisor = bytes_of("GC_FREE_SPACE_DIVISOR");
     if (most) GC_set_max_heap_size(most);
     if (least) GC_expand_hp(least);
-    GC_free_space_divisor = bytes_of("GC_FREE_SPACE_DIVISOR", GC_free_space_divisor);
+    if (divisor) GC_free_space_divisor = divisor;
     mpgc_read_unmapping();
     mpgc_read_markers();
     if (getenv("GC_DONT_GC")) GC_dont_gc = 1;

@@ -7,6 +7,7 @@
 #include <signal.h>
 #include <stdint.h>
 #include <sys/syscall.h>
+#include <ucontext.h>
 #include "check.h"
 #include "cycle.h"
 
@@ -147,19 +148,15 @@ static int another_opened_it(void)
 }
 #endif
 
-static char other_stack[100000];
-static void collects(int number)
-{
-    (void)number;
-    GC_gcollect();
-}
+/* The program moves to another stack, and doesn't say so. */
 static void on_other_stack(void)
 {
-    stack_t stack = { .ss_sp = other_stack, .ss_size = sizeof other_stack };
-    struct sigaction action = { .sa_handler = collects, .sa_flags = SA_ONSTACK };
-    sigaltstack(&stack, NULL);
-    sigaction(SIGUSR1, &action, NULL);
-    raise(SIGUSR1);
+    static char other_stack[100000];
+    static ucontext_t here, there;
+    getcontext(&there);
+    there.uc_stack = (stack_t){ .ss_sp = other_stack, .ss_size = sizeof other_stack };
+    makecontext(&there, GC_gcollect, 0);
+    swapcontext(&here, &there);
 }
 
 /* A handler of the program writes into the heap between calls. */

@@ -192,6 +192,22 @@ static int has_no_limit_either(void)
     return takes_two_megabytes();
 }
 
+/* What is no size is left out, as by bdwgc. */
+static int has_no_limit_that_is_no_size(void)
+{
+    setenv("GC_MAXIMUM_HEAP_SIZE", getenv("NO_SIZE"), 1);
+    GC_set_warn_proc(GC_ignore_warn_proc);
+    return takes_two_megabytes();
+}
+static void check_no_sizes(void)
+{
+    static const char *const texts[] = { "1e9", "5T", "10MB", "0x10", "64M ", "k" };
+    for (size_t k = 0; k < sizeof texts / sizeof *texts; k++) {
+        setenv("NO_SIZE", texts[k], 1);
+        check_that(texts[k], status_of(has_no_limit_that_is_no_size) == 0);
+    }
+}
+
 static int cannot_grow_so_far(void)
 {
     GC_INIT();
@@ -345,6 +361,7 @@ int main(void)
     CHECK(status_of(in_little_space) == 0);
     CHECK(status_of(has_no_limit) == 0);
     CHECK(status_of(has_no_limit_either) == 0);
+    check_no_sizes();
     CHECK(status_of(cannot_grow_so_far) == 0);
     CHECK(status_of(fills_what_it_asked_for) == 0);
     CHECK(status_of(fills_its_first_heap) == 0);

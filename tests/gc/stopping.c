@@ -234,6 +234,91 @@ static void destroyed_late(void)
     CHECK(right == THREADS);
 }
 
+/* A process's first thread, which stays for the kernel when it has ended: the others collect without it. */
+static void *collect_behind(void *first)
+{
+    if (pthread_join(*(pthread_t *)first, NULL) != 0) exit(1);
+    for (int k = 0; k < 3; k++) GC_gcollect();
+    exit(0);
+}
+static int first_is_destroyed_late(void)
+{
+    static pthread_t first;
+    pthread_t thread;
+    alarm(60);
+    first = pthread_self();
+    if (pthread_create(&thread, NULL, collect_behind, &first) != 0 || pthread_setspecific(key, &key) != 0) return 1;
+    pthread_exit(NULL);
+}
+
+/* And its last one: the process ends, though the library has threads of its own. */
+static void *volatile room_for_markers;
+static void collect_again(void *data)
+{
+    pthread_setspecific(key, data);
+    for (int k = 0; k < 100; k++) room_for_markers = GC_malloc((size_t)1 << 18);
+    GC_gcollect();
+}
+static int last_is_destroyed_late(void)
+{
+    room_for_markers = GC_malloc((size_t)4 << 20);
+    if (pthread_key_create(&key, collect_again) != 0 || pthread_setspecific(key, &key) != 0) return 1;
+    GC_gcollect();
+    pthread_exit(NULL);
+}
+static int last_is_destroyed_late_beside_the_collector(void)
+{
+    GC_enable_collector_thread();
+    room_for_markers = GC_malloc(16);
+    return last_is_destroyed_late();
+}
+
+/* The library's threads block signals: so no alarm ends such a process. */
+static int ends_in_time(int (*body)(void))
+{
+    int status = -1;
+    pid_t child = fork();
+    if (child == 0) _exit(body());
+    for (int k = 0; k < 600; k++) {
+        if (waitpid(child, &status, WNOHANG) == child) return WIFEXITED(status) && WEXITSTATUS(status) == 0;
+        rest(0.1);
+    }
+    kill(child, SIGKILL);
+    waitpid(child, &status, 0);
+    return 0;
+}
+
+/* What is known of a thread goes when it has ended, though it asked once more behind its last goodbye. */
+static long resident(void)
+{
+    long all, here = 0;
+    FILE *file = fopen("/proc/self/statm", "r");
+    if (file && fscanf(file, "%ld %ld", &all, &here) != 2) here = 0;
+    if (file) fclose(file);
+    return here;
+}
+static _Atomic int begun;
+static void *set_key_alone(void *data)
+{
+    pthread_detach(pthread_self());
+    begun++;
+    return set_key(data);
+}
+static int leaves_nothing_behind(void)
+{
+    enum { MANY = 3000, MOST = 2500 }; /* threads, and pages: of each it was 3 and more */
+    long before = 0;
+    for (int k = 0; k < MANY; k++) {
+        pthread_t thread;
+        if (k == 100) before = resident();
+        if (pthread_create(&thread, NULL, k % 2 ? set_key : set_key_alone, NULL) != 0) return 1;
+        if (k % 2 && pthread_join(thread, NULL) != 0) return 1;
+        if (k % 16 == 0) GC_gcollect();
+        while (begun <= k / 2 - 20) rest(0.0001);
+    }
+    return resident() - before > MOST ? 2 : 0;
+}
+
 /* A thread that is known from the beginning says that it goes, and goes on for some time: its record is written no more. */
 static void *says_that_it_goes(void *data)
 {
@@ -553,6 +638,10 @@ int main(void)
     CHECK(status_of(protects_itself) == 0);
     cancelled();
     destroyed_late();
+    CHECK(status_of(first_is_destroyed_late) == 0);
+    CHECK(status_of(leaves_nothing_behind) == 0);
+    CHECK(ends_in_time(last_is_destroyed_late));
+    CHECK(ends_in_time(last_is_destroyed_late_beside_the_collector));
     while (waitpid(stopped, &status, 0) < 0) continue;
     CHECK(WIFEXITED(status) && WEXITSTATUS(status) == 0);
     return check_ends();

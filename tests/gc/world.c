@@ -294,11 +294,11 @@ static void loading(void)
 
 /* An object with more thread-local data comes in the place of one whose data a thread has still. */
 static const char *larger;
-static void *(*place_of_larger)(void);
+static void **(*place)(void);
 static _Atomic int has_looked;
 static void *look_once(void *seed)
 {
-    place_of_larger();
+    place();
     has_looked = 1;
     while (!is_over) sched_yield();
     return seed;
@@ -307,7 +307,7 @@ static void *load_place(const char *from)
 {
     void *object = dlopen(from, RTLD_NOW), *found = object ? dlsym(object, "thread_place") : NULL;
     if (!found) abort();
-    memcpy(&place_of_larger, &found, sizeof found);
+    memcpy(&place, &found, sizeof found);
     return object;
 }
 static void replaced(void)
@@ -323,6 +323,22 @@ static void replaced(void)
     is_over = 1;
     CHECK(pthread_join(thread, NULL) == 0);
     dlclose(second);
+}
+
+/* An object that is loaded has its thread-local data in the room that each thread has for it from its start. */
+static const char *initial;
+static __attribute__((noinline)) void put_list(uint64_t seed) { *place() = list_of(seed, 300); }
+static void in_the_room(void)
+{
+    void *object = load_place(initial);
+    put_list(5);
+    for (int k = 0; k < 3; k++) {
+        list_of(1, 300);
+        GC_gcollect();
+    }
+    CHECK(is_list(*place(), 5, 300));
+    *place() = NULL;
+    dlclose(object);
 }
 
 /* Threads that go through the loaded objects, slowly, while others collect. */
@@ -363,6 +379,7 @@ int main(int count, char **words)
     struct node *mine;
     path = count > 1 ? words[1] : NULL;
     larger = count > 2 ? words[2] : NULL;
+    initial = count > 3 ? words[3] : NULL;
     GC_INIT();
     is_incremental = getenv("INCREMENTAL") != NULL;
     if (is_incremental) GC_enable_incremental();
@@ -373,6 +390,7 @@ int main(int count, char **words)
     within_time(endings);
     if (path) within_time(loading);
     if (larger) within_time(replaced);
+    if (initial) within_time(in_the_room);
     within_time(looking);
     within_time(reading);
     CHECK(is_list(mine, 11, 1000));

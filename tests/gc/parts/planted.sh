@@ -15,7 +15,7 @@ planted() {
     case $test in
         shadow) words=(3 300000) ;;
         threads) words=(3 2) ;;
-        world) words=("$room/loaded_local.so" "$room/loaded_larger.so") ;;
+        world) words=("${locals[@]}") ;;
         loading) words=("$room/loaded_calling.so") ;;
         collector) words=(2) ;;
         together) words=(4 2) ;;
