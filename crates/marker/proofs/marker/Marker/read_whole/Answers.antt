@@ -4,7 +4,7 @@ use Rattle.words.specs.Layout.{page_of}
 use Rattle.block_map.specs.FoundIn.{found_in}
 use Rattle.marker.specs.declared.entry.Entry.{Entry}
 use Rattle.marker.specs.Marking.{Marking, with_current, with_carried, word_address}
-use Rattle.marker.specs.Growth.{CarriesPage, MarksWords, entry_of, words_from}
+use Rattle.marker.specs.Growth.{CarriesPage, entry_of, words_from}
 use Rattle.marker.specs.Entries.{IsLive, IsSpent, ReadsOn, Settles, Takes, nothing, settled, read}
 use Rattle.marker.proofs.Closures.{marks_of}
 use Rattle.marker.proofs.Known.{from_more, known_on, top_taken}
