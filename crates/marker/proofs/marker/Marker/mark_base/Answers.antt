@@ -1,4 +1,4 @@
-use Rattle.std.proofs.Common.{◌≡◌, ℕ, get_or, false, true, refl, sym, ap, ◌∙◌}
+use Rattle.std.proofs.Common.{ℕ, get_or, false, refl, sym, ap, ◌∙◌}
 use Rattle.words.specs.Layout.{granule}
 use Rattle.marker.specs.Marking.{Marking}
 use Rattle.marker.proofs.MarkWord.{not_true, word_object}
