@@ -1,6 +1,7 @@
 -- A round of helpers.
-use Rattle.std.specs.Prelude.{◌≡◌, ℕ, ◌+◌, ◌<◌, List, length, Option, Some, slice_index_or}
-use Rattle.words.specs.Bits.{Has}
+use Rattle.std.specs.Prelude.{◌≡◌, ℕ, ◌+◌, ◌<◌, List, [], All, length, Option, Some, slice_index_or}
+use Rattle.words.specs.Bits.{Has, IsClear}
+use Rattle.mark_bits.specs.Tables.{view}
 use Rattle.block_map.specs.States.{PageState}
 use Rattle.block_map.specs.declared.found.Found.{Found}
 use Rattle.marker.specs.Marking.{Marking, IsMarked, Covers}
@@ -8,7 +9,7 @@ use Rattle.final_pause.specs.declared.helper.Helper.{Helper}
 use Rattle.final_pause.specs.declared.round.Round.{Round}
 use Rattle.final_pause.specs.Pauses.{PauseView}
 use Rattle.final_pause.specs.Helping.{IsReadyPause}
-use Rattle.final_pause.specs.Serving.{IsServing, HasServed}
+use Rattle.final_pause.specs.Serving.{IsServing, HasServed, IsHired}
 use Rattle.final_pause.specs.Gathering.{HasGathered}
 
 -- what the helpers of a round share, over this marker, map and memory
@@ -19,6 +20,14 @@ round_view r marker map memory roots = record { table = r.table; marker = marker
 pub record IsRound (p : PauseView) (r : Round) : Type 0 where
   pub ready : IsReadyPause p
   pub gathered : HasGathered p r.helpers r.first r.dirty r.carried
+
+-- A round that is dealt, of a heap of so many pages, before anybody reads: no mark is won, and no page is dirty or carried, of the round
+-- or of a helper, and nothing waits.
+pub record IsFresh (pages : ℕ) (r : Round) (crew : List Helper) : Type 0 where
+  pub won : (view r.first).won ≡ []
+  pub dirty : IsClear r.dirty pages
+  pub carried : IsClear r.carried pages
+  pub helpers : All (IsHired r.table pages) crew
 
 -- helpers of places in a row, from one on, are at work
 pub record AreServing (p : PauseView) (from : ℕ) (crew : List Helper) : Type 0 where

@@ -10,7 +10,7 @@ ghost use Rattle.marker.specs.Invariant.{AreRootsMarked};
 ghost use Rattle.marker.specs.Growth.{Traces};
 ghost use Rattle.final_pause.specs.Serving.{IsServing, HasServed};
 ghost use Rattle.final_pause.specs.Pauses.{pause_view};
-ghost use Rattle.final_pause.specs.Rounds.{round_view, IsRound, AreServing, AreServed, DirtiesNew};
+ghost use Rattle.final_pause.specs.Rounds.{round_view, IsRound, IsFresh, AreServing, AreServed, DirtiesNew};
 
 use crate::crew::{gather, hire};
 use crate::gate::Open;
@@ -37,8 +37,8 @@ pub struct Round {
 }
 
 impl Round {
-    /// Deals all that waits to be read to so many helpers. No object lies, and no mark is, on a page from `used` on, and of these
-    /// the table has nothing.
+    /// Deals all that waits to be read to so many helpers, and reads none of it. No object lies, and no mark is, on a page from `used`
+    /// on, and of these the table has nothing.
     ///
     /// # Errors
     /// [`AllocError`] where a growth of memory was refused.
@@ -57,6 +57,7 @@ impl Round {
         ensures round { IfOk result (λ d. (memory roots : List ℕ) → length memory ≡ PAGE_WORDS * length map.now → IsRound (round_view d.0 marker.now map.now memory roots) d.0) }
         ensures crew { IfOk result (λ d. (memory roots : List ℕ) → length memory ≡ PAGE_WORDS * length map.now → AreServing (round_view d.0 marker.now map.now memory roots) 0 d.1.items) }
         ensures number { IfOk result (λ d. d.0.helpers ≡ helpers.number) }
+        ensures fresh { IfOk result (λ d. IsFresh (length map.now) d.0 d.1.items) }
     {
         marker.laws();
         let Ok((table, mut first)) = marker.open_table(alloc, used) else {
@@ -118,7 +119,8 @@ impl Round {
         helper: &mut Helper,
     ) -> u64
         requires { IsServing (round_view self.now marker.now map.now memory.now roots.now) helper.old }
-        ensures { HasServed (round_view self.now marker.now map.now memory.now roots.now) helper.old.place helper.new }
+        ensures served { HasServed (round_view self.now marker.now map.now memory.now roots.now) helper.old.place helper.new }
+        ensures few { result ≤ most }
     {
         helper.left = most;
         self.pause(marker, map, memory, roots).help(&Open, helper);

@@ -50,7 +50,7 @@ use Rattle.object_space.proofs.Allocations.{shows_same}
 use Rattle.object_space.proofs.Words.{shows_kept}
 use Rattle.heap_view.proofs.Shows.{at_base}
 use Rattle.object_space.proofs.Sweeping.{read_or_not}
-use Rattle.object_space.specs.Many.{HasNoneReady}
+use Rattle.object_space.specs.Many.{HasNoneReady, LeavesPages}
 use Rattle.object_space.specs.Rooms.{HasRoomAt, HasNoRoom}
 use Rattle.heap_core.proofs.Lookups.{finds}
 use Rattle.heap_core.proofs.Forgotten.{forgotten_added, forgotten_removed, forgotten_swept}
@@ -138,7 +138,7 @@ allocated_step roots roots' t t' y y' {ls = ls} slot d n base kind placement m a
 
 pub allocated : (roots roots' : RootSet) (t0 t t' : Store) (y y' : Cycle) {ls : List Link} (slot d n base : ℕ) (kind : Kind) (placement : Placement) (m : HeapMutator) → HasMutator roots slot m → placement_of roots.request_words n ≡ Some placement
     → Sweeps t0 y.marker.marks t → HasRoomAt t placement kind base → (gains : Gains t placement kind base t') → SetsWord roots slot d base roots' → NotesObject y.is_marking base y.marker y'.marker → (IsMarked y.marker gains.object.base → ⊥) → y'.is_marking ≡ y.is_marking → y'.count ≡ y.count → y'.needs_full ≡ y.needs_full
-    → HasNoneReady t0 placement kind ⊎ (t'.free ≡ t0.free) → IsCall (core_of roots t0 y ls) (Mutator slot (Alloc d n kind)) Done (core_of roots' t' y' ls)
+    → HasNoneReady t0 placement kind ⊎ LeavesPages t0 t' → IsCall (core_of roots t0 y ls) (Mutator slot (Alloc d n kind)) Done (core_of roots' t' y' ls)
 allocated roots roots' t0 t t' y y' {ls = ls} slot d n base kind placement m at is sweeps room gains sets notes unmarked phase count needs cuts = record {
   steps = λ s h. allocated_step roots roots' t t' y y' slot d n base kind placement m at is room gains sets notes s (swept_stands roots t0 t y sweeps s h);
   phase = phase;
@@ -175,12 +175,12 @@ allocated roots roots' t0 t t' y y' {ls = ls} slot d n base kind placement m at 
     no_free (s, q, e) = cc
 
     cut_in_need : (p : Placement) (k : Kind) → ((s x w : ℕ) × (Mutator slot (Alloc d n kind) ≡ Mutator s (Alloc x w k)) × (Done ≡ Done) × (placement_of roots.request_words w ≡ Some p))
-        → HasNoneReady t0 p k ⊎ (t'.free ≡ t0.free)
+        → HasNoneReady t0 p k ⊎ LeavesPages t0 t'
     cut_in_need p k (s, x, w, e, _, found) =
         let same : w ≡ n = cc in
         let of_kind : kind ≡ k = cc in
         let one : placement ≡ p = same_Some placement p (sym is ∙ ap (placement_of roots.request_words) (sym same) ∙ found) in
-        subst (λ q. HasNoneReady t0 p q ⊎ (t'.free ≡ t0.free)) of_kind (subst (λ q. HasNoneReady t0 q kind ⊎ (t'.free ≡ t0.free)) one cuts)
+        subst (λ q. HasNoneReady t0 p q ⊎ LeavesPages t0 t') of_kind (subst (λ q. HasNoneReady t0 q kind ⊎ LeavesPages t0 t') one cuts)
 
     -- the object at the granule is the one that came
     new : (f : Found) → found_in t'.states f.base ≡ Some f → granule f.base ≡ granule base → restrict (is_kept t0.pending y.marker.marks) (found_in t0.states) f.base ≡ None

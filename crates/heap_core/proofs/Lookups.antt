@@ -121,7 +121,7 @@ stores roots t t' y y' {ls = ls} slot a n r m f lawful long at aligned is writes
   swept = λ p h. inl (subst (λ (x : Store). Has x.pending p) (sym writes) h);
   forgotten = forgotten_same (core_of roots t y ls) (core_of roots t' y' ls) (ap (λ (x : Store). x.states) writes) (ap (λ (x : Store). x.pending) writes) notes.marks;
   full = λ h. absurd (not_done (Mutator slot (StoreCall a n r)) h);
-  cuts = λ placement kind is. inr (ap (λ (x : Store). x.free) writes);
+  cuts = λ placement kind is. inr (record { free = ap (λ (x : Store). x.free) writes; pending = ap (λ (x : Store). x.pending) writes });
   roots_alone = λ not. absurd (not tt);
 }
   where

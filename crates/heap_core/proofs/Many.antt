@@ -16,7 +16,7 @@ use Rattle.heap_spec.proofs.Calls.{attached_is}
 use Rattle.links.specs.declared.row.Link.{Link}
 use Rattle.roots.specs.Roots.{RootSet, HasMutator, SetsWord, with_word}
 use Rattle.roots.proofs.Steps.{set_mutators}
-use Rattle.object_space.specs.Many.{AllocatesEach, none, more}
+use Rattle.object_space.specs.Many.{AllocatesEach, LeavesPages, none, more}
 use Rattle.object_space.specs.Store.{Store}
 use Rattle.object_space.specs.Sweeps.{Allocates}
 use Rattle.heap_core.specs.Beside.{NotesObject}
@@ -117,13 +117,13 @@ module _ (roots : RootSet) (y : Cycle) (ls : List Link) (slot into words : ℕ) 
   }
 
   -- one more
-  module _ (r : RootSet) (t t' : Store) (base : ℕ) (ready : IsReady r) (legal : IsLegalCore (core_of r t y ls)) (a : Allocates t y.marker.marks placement kind base t') (free : t'.free ≡ t.free) where
+  module _ (r : RootSet) (t t' : Store) (base : ℕ) (ready : IsReady r) (legal : IsLegalCore (core_of r t y ls)) (a : Allocates t y.marker.marks placement kind base t') (leaves : LeavesPages t t') where
     traced : IsTraced a.ready y
     traced = traced_swept t a.ready y legal.traced a.sweeps
 
     calls : IsCall (core_of r t y ls) (Mutator slot (Alloc into words kind)) Done (core_of (with_base base) t' y ls)
     calls = allocated r (with_base base) t a.ready t' y y slot into words base kind placement ready.holder ready.attached (ap (λ n. placement_of n words) ready.limit ∙ is) a.sweeps a.room a.gains (ready.sets base) (notes base)
-        (unmarked_new a.ready t' y placement kind base traced.objects a.gains) refl refl refl (inr free)
+        (unmarked_new a.ready t' y placement kind base traced.objects a.gains) refl refl refl (inr leaves)
 
     stays_legal : IsLegalCore (core_of (with_base base) t' y ls)
     stays_legal = legal_called (core_of r t y ls) (core_of (with_base base) t' y ls) legal (traced_object a.ready t' y y placement kind base traced a.gains (notes base) refl refl)
@@ -140,14 +140,14 @@ module _ (roots : RootSet) (y : Cycle) (ls : List Link) (slot into words : ℕ) 
 
   pub leads : (t : Store) → IsLegalCore (core_of roots t y ls) → {bases : List ℕ} {t' : Store} → AllocatesEach y.marker.marks placement kind t bases t' → Leads t bases t'
   leads t legal none = record { after = roots; ready = ready_first; legal = legal; grants = begun; same = λ _. (refl, refl); last = λ n e. absurd (omega arith) }
-  leads t legal {t' = t'} (more {bases = bases} {base = base} {mid = mid} before a free) =
+  leads t legal {t' = t'} (more {bases = bases} {base = base} {mid = mid} before a leaves) =
       let l = leads t legal before in
       let long : length (bases ++ base ∷ []) ≡ length bases + 1 = length-append bases (base ∷ []) in
       record {
         after = with_base base;
         ready = ready_after base;
-        legal = stays_legal l.after mid t' base l.ready l.legal a free;
-        grants = granted l.grants (calls l.after mid t' base l.ready l.legal a free) (holds base);
+        legal = stays_legal l.after mid t' base l.ready l.legal a leaves;
+        grants = granted l.grants (calls l.after mid t' base l.ready l.legal a leaves) (holds base);
         same = λ e. absurd (omega (arith, long));
         last = λ n e. ap with_base (sym (ap (λ k. get_or (bases ++ base ∷ []) k 0) (let k : n ≡ length bases = omega (arith, long) in k) ∙ get_or-append_seam bases base [] 0));
       }

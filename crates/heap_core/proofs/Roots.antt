@@ -98,7 +98,7 @@ changes_beside c roots ls event reply not_full not_dirty need steps = record {
   swept = λ p h. inl h;
   forgotten = forgotten_same c (record c { roots = roots; links = ls }) refl refl refl;
   full = λ h. absurd (not_full h);
-  cuts = λ placement kind is. inr refl;
+  cuts = λ placement kind is. inr (record { free = refl; pending = refl });
   roots_alone = λ not. (refl, refl);
 }
 

@@ -18,7 +18,7 @@ use Rattle.heap_spec.specs.Steps.{address, register}
 use Rattle.block_map.specs.declared.found.Found.{Found}
 use Rattle.marker.specs.Marking.{IsMarked}
 use Rattle.roots.specs.Roots.{HasMutator}
-use Rattle.object_space.specs.Many.{HasNoneReady}
+use Rattle.object_space.specs.Many.{HasNoneReady, LeavesPages}
 use Rattle.object_space.specs.Store.{IsSwept}
 use Rattle.heap_core.specs.CoreContents.{CoreContents}
 use Rattle.heap_core.specs.Standing.{StandsFor, IsForgotten, objects_of}
@@ -87,8 +87,8 @@ MaySweep c Number p = ⊥
 -- the one that it has stored to becomes dirty. Exactly a free that was done makes that a full cycle is needed. No page
 -- becomes pending, few calls sweep, and an allocation for which there was no place has left none pending. The forgotten
 -- objects are those of before whose pages are still pending. An allocation takes free pages, or sweeps others, only where no
--- page of its class and kind has a free cell and needs no sweep: else the free pages stay. Unless it reaches the pages it
--- changes nothing but the roots.
+-- page of its class and kind has a free cell and needs no sweep: else the free pages and the pending ones stay. Unless it
+-- reaches the pages it changes nothing but the roots.
 pub record IsCall (old : CoreContents) (event : Event) (reply : Reply) (new : CoreContents) : Type 0 where
   pub steps : IsStep (StandsFor old) event reply (StandsFor new)
   pub phase : new.cycle.is_marking ≡ old.cycle.is_marking
@@ -109,5 +109,5 @@ pub record IsCall (old : CoreContents) (event : Event) (reply : Reply) (new : Co
   pub swept : (p : ℕ) → Has old.store.pending p → Has new.store.pending p ⊎ MaySweep old event p
   pub forgotten : (w : ℕ) (f : Found) → IsForgotten new w f ↔ (IsForgotten old w f × Has new.store.pending f.page)
   pub full : IsFullAlloc event reply → IsSwept new.store
-  pub cuts : (placement : Placement) (kind : Kind) → IsAllocation old event reply placement kind → HasNoneReady old.store placement kind ⊎ (new.store.free ≡ old.store.free)
+  pub cuts : (placement : Placement) (kind : Kind) → IsAllocation old event reply placement kind → HasNoneReady old.store placement kind ⊎ LeavesPages old.store new.store
   pub roots_alone : (ReachesPages event reply → ⊥) → (new.store ≡ old.store) × (new.cycle ≡ old.cycle)

@@ -28,7 +28,7 @@ use Rattle.object_space.proofs.Sweeping.{read_or_not}
 use Rattle.block_map.proofs.Lawful.{map_laws}
 use Rattle.block_map.proofs.Words.{cells_end}
 use Rattle.lazy_sweep.specs.AvailableRows.{row_of, AreReady, AreWaiting, IsAvailable, IsBitSet, IsReadyPage, IsFreeCell}
-use Rattle.object_space.specs.Many.{AllocatesEach, HasNoneReady, ZeroesEach, base_of}
+use Rattle.object_space.specs.Many.{AllocatesEach, HasNoneReady, LeavesPages, ZeroesEach, base_of}
 use Rattle.object_space.specs.Store.{HasSoundPages, IsWholeSpace, Store}
 use Rattle.object_space.specs.Sweeps.{Allocates, Sweeps}
 use Rattle.object_space.proofs.Allocations.{allocates_cell, gains_cell, sound_cell, TakesCell}
@@ -39,7 +39,7 @@ use Rattle.object_space.proofs.Searching.{allocates_after}
 use Rattle.lazy_sweep.proofs.Swept.{store_of, sweeps_none}
 
 -- one comes before the others
-pub each_first : (marks : List Bool) (placement : Placement) (kind : Kind) (old mid : Store) (base : ℕ) {bases : List ℕ} {new : Store} → Allocates old marks placement kind base mid → mid.free ≡ old.free
+pub each_first : (marks : List Bool) (placement : Placement) (kind : Kind) (old mid : Store) (base : ℕ) {bases : List ℕ} {new : Store} → Allocates old marks placement kind base mid → LeavesPages old mid
     → AllocatesEach marks placement kind mid bases new → AllocatesEach marks placement kind old (base ∷ bases) new
 each_first marks placement kind old mid base first kept AllocatesEach.none = AllocatesEach.more AllocatesEach.none first kept
 each_first marks placement kind old mid base first kept (AllocatesEach.more before last pool) = AllocatesEach.more (each_first marks placement kind old mid base first kept before) last pool
@@ -236,7 +236,7 @@ module _ (class : ℕ) (kind : Kind) (page : ℕ) (links : List ℕ) where
             sweeps = sweeps_none t marks lawful.map;
             room = allocates_cell t class kind page cell base mid (after_take links states page) sound laid lawful at takes;
             gains = gains_cell t class kind page cell base mid (after_take links states page) laid lawful at takes swept;
-          }) refl onward.0,
+          }) (record { free = refl; pending = refl }) onward.0,
           onward.1,
         )
 
@@ -297,14 +297,14 @@ module _ (t : Store) (ready waiting : List (List Bool)) (whole : IsWholeSpace t 
   }
 
 -- once a page became a list, places were taken
-pub each_after : (marks : List Bool) (placement : Placement) (kind : Kind) (old mid new : Store) (bases : List ℕ) → Sweeps old marks mid → mid.free ≡ old.free → AllocatesEach marks placement kind mid bases new → 0 < length bases → AllocatesEach marks placement kind old bases new
+pub each_after : (marks : List Bool) (placement : Placement) (kind : Kind) (old mid new : Store) (bases : List ℕ) → Sweeps old marks mid → LeavesPages old mid → AllocatesEach marks placement kind mid bases new → 0 < length bases → AllocatesEach marks placement kind old bases new
 each_after marks placement kind old mid new bases sweeps kept each some = by each some
   where
     absorb : {bases : List ℕ} {new : Store} → AllocatesEach marks placement kind mid bases new → ((bases ≡ []) × (new ≡ mid)) ⊎ AllocatesEach marks placement kind old bases new
     absorb AllocatesEach.none = inl (refl, refl)
     absorb (AllocatesEach.more {base = base} {mid = between} {new = last} before next pool) = inr (⊎_elim
         (λ none. subst (λ xs. AllocatesEach marks placement kind old (xs ++ base ∷ []) last) (sym none.0)
-        (AllocatesEach.more AllocatesEach.none (allocates_after old between last marks placement kind base (subst (Sweeps old marks) (sym none.1) sweeps) next) (pool ∙ ap (λ (t : Store). t.free) none.1 ∙ kept)))
+        (AllocatesEach.more AllocatesEach.none (allocates_after old between last marks placement kind base (subst (Sweeps old marks) (sym none.1) sweeps) next) (record { free = pool.free ∙ ap (λ (t : Store). t.free) none.1 ∙ kept.free; pending = pool.pending ∙ ap (λ (t : Store). t.pending) none.1 ∙ kept.pending })))
         (λ some. AllocatesEach.more some next pool)
         (absorb before))
 

@@ -10,10 +10,15 @@ use Rattle.lazy_sweep.specs.AvailableRows.{IsReadyPage}
 use Rattle.object_space.specs.Store.{Store}
 use Rattle.object_space.specs.Sweeps.{Allocates}
 
--- Objects of one placement and kind were allocated one after the other, with these bases, and none took a free page.
+-- no page was taken or given back, and none was swept
+pub record LeavesPages (old new : Store) : Type 0 where
+  pub free : new.free ≡ old.free
+  pub pending : new.pending ≡ old.pending
+
+-- Objects of one placement and kind were allocated one after the other, with these bases, and for none a free page was taken or one swept.
 pub data AllocatesEach (marks : List Bool) (placement : Placement) (kind : Kind) (old : Store) : List ℕ → Store → Type 0 where
   none : AllocatesEach marks placement kind old [] old
-  more : {bases : List ℕ} {base : ℕ} {mid new : Store} → AllocatesEach marks placement kind old bases mid → Allocates mid marks placement kind base new → new.free ≡ mid.free
+  more : {bases : List ℕ} {base : ℕ} {mid new : Store} → AllocatesEach marks placement kind old bases mid → Allocates mid marks placement kind base new → LeavesPages mid new
       → AllocatesEach marks placement kind old (bases ++ base ∷ []) new
 
 -- No page is cut for the class and the kind of a request, has a free cell, and needs no sweep. A large one takes pages of its own.

@@ -5,7 +5,7 @@ ghost use Rattle.words.specs.Bits.{Has};
 ghost use Rattle.block_map.specs.Listed.{IsLinked};
 ghost use Rattle.block_map.specs.States.{state_at};
 ghost use Rattle.lazy_sweep.specs.AvailableRows.{IsAvailable, IsReadyPage, HasNoFreeCell};
-ghost use Rattle.object_space.specs.Many.{HasNoneReady};
+ghost use Rattle.object_space.specs.Many.{HasNoneReady, LeavesPages};
 ghost use Rattle.object_space.specs.Rooms.{IsRequest};
 ghost use Rattle.object_space.specs.Sweeps.{Allocates, FindsNoPlace, FindsNoRoom, Sweeps};
 
@@ -20,7 +20,7 @@ impl ObjectSpace {
         ensures sweeps { (marks : List Bool) → Sweeps self.old marks self.new }
         ensures some { IfSome result (λ page. IsReadyPage self.new.states self.new.pending page class kind × IsLinked (state_at self.new.states page)) }
         ensures none { IfNone result (HasNoneReady self.old (Placement.Small class) kind × (self.new ≡ self.old)) }
-        ensures free { self.new.free ≡ self.old.free }
+        ensures leaves { LeavesPages self.old self.new }
     {
         self.table.map.laws();
         let Some(page) = self.table.ready.first(class, kind) else {
@@ -97,7 +97,7 @@ impl ObjectSpace {
         requires request { IsRequest placement }
         requires pages { length marker.now.dirty ≡ length self.old.states }
         ensures places { MatchOption result (FindsNoRoom self.old marker.now.marks placement kind self.new) (λ base. Allocates self.old marker.now.marks placement kind base self.new) }
-        ensures cuts { HasNoneReady self.old placement kind ⊎ (self.new.free ≡ self.old.free) }
+        ensures cuts { HasNoneReady self.old placement kind ⊎ LeavesPages self.old self.new }
     {
         self.laws();
         if let Placement::Small(class) = &placement

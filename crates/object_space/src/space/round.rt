@@ -8,7 +8,7 @@ ghost use Rattle.block_map.specs.declared.found.Found.{Found};
 ghost use Rattle.marker.specs.Growth.{Traces};
 ghost use Rattle.marker.specs.Marking.{IsEmpty};
 ghost use Rattle.final_pause.specs.Serving.{IsServing, HasServed};
-ghost use Rattle.final_pause.specs.Rounds.{round_view, IsRound, AreServing, AreServed, DirtiesNew};
+ghost use Rattle.final_pause.specs.Rounds.{round_view, IsRound, IsFresh, AreServing, AreServed, DirtiesNew};
 
 use super::ObjectSpace;
 use final_pause::{Helper, Helpers, Round};
@@ -36,6 +36,7 @@ impl ObjectSpace {
         ensures number { IfOk result (λ d. d.0.helpers ≡ helpers.number) }
         ensures round { IfOk result (λ d. IsRound (round_view d.0 marker.now self.now.states self.now.words []) d.0) }
         ensures crew { IfOk result (λ d. AreServing (round_view d.0 marker.now self.now.states self.now.words []) 0 d.1.items) }
+        ensures fresh { IfOk result (λ d. IsFresh (length self.now.states) d.0 d.1.items) }
     {
         Round::deal(alloc, marker, &self.table.map, used, helpers)
     }
@@ -44,7 +45,8 @@ impl ObjectSpace {
     /// first to mark, it leaves the others to their pages. Answers how many it read of these. It takes no memory.
     pub fn help(&self, round: &Round, marker: &Marker, most: u64, helper: &mut Helper) -> u64
         requires { IsServing (round_view round.now marker.now self.now.states self.now.words []) helper.old }
-        ensures { HasServed (round_view round.now marker.now self.now.states self.now.words []) helper.old.place helper.new }
+        ensures served { HasServed (round_view round.now marker.now self.now.states self.now.words []) helper.old.place helper.new }
+        ensures few { result ≤ most }
     {
         round.help(marker, &self.table.map, &self.memory, &[], most, helper)
     }

@@ -16,6 +16,6 @@ returns-in_default-ready_page-clause-allocates c marks = rw c.in_default-ready_p
 
 pub returns-clause-allocates : goal.returns-clause-allocates
 returns-clause-allocates c marks = rw c.in-Small.is
-    (each_after marks (Small c.in-Small.class) c.args.kind _ _ _ _ (c.ready_page.ensures.sweeps marks) c.ready_page.ensures.free (c.take_linked.ensures.allocates marks)
+    (each_after marks (Small c.in-Small.class) c.args.kind _ _ _ _ (c.ready_page.ensures.sweeps marks) c.ready_page.ensures.leaves (c.take_linked.ensures.allocates marks)
     (let few = c.take_linked.ensures.few in let size = c.take_linked.ensures.size in let ne = c.if-bases-eq0.false in let some = c.take_linked.ensures.some (omega arith) in
     let count = length-take-le c.take_linked.result c.take_linked.new.bases few in omega arith))
