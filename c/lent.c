@@ -18,7 +18,7 @@ struct lent { struct block free; struct later *later; size_t bytes; };
 
 enum { UNIT = sizeof(struct block), HEAD = (sizeof(struct lent) + UNIT - 1) / UNIT * UNIT };
 
-static _Thread_local struct lent *used;
+static _Thread_local struct lent *used __attribute__((tls_model("initial-exec")));
 
 static char *end_of(struct block *block) { return (char *)block + block->bytes; }
 

@@ -35,20 +35,20 @@ static char refused;
 static atomic_size_t mapped;
 
 /* While this thread opens a mapped heap: the bytes of its words, and how many requests of that size come before theirs. */
-static _Thread_local size_t wanted;
-static _Thread_local uint32_t before;
-static _Thread_local bool is_taken;
+static _Thread_local size_t wanted __attribute__((tls_model("initial-exec")));
+static _Thread_local uint32_t before __attribute__((tls_model("initial-exec")));
+static _Thread_local bool is_taken __attribute__((tls_model("initial-exec")));
 
 /* The bytes of words that this thread has just mapped, and that nobody has touched: the kernel has them 0. */
-static _Thread_local size_t untouched;
+static _Thread_local size_t untouched __attribute__((tls_model("initial-exec")));
 
 /* What the last request of this thread was given, if that was a large one: calloc has it 0. The library makes a row of zeros by a
  * request, a memset of all of it but the last word, and a store of that, with nothing between the three, and writes no other
  * memory as a whole. So that memset is left out, and of a large row only what is used is ever touched. With so much to spare
  * calloc has the system map the row; what it took from its own store it would have to clear. */
 enum { LARGE = 16 * 1024, SPARE = 256 * 1024, LAST = 8 };
-static _Thread_local void *fresh;
-static _Thread_local size_t fresh_bytes;
+static _Thread_local void *fresh __attribute__((tls_model("initial-exec")));
+static _Thread_local size_t fresh_bytes __attribute__((tls_model("initial-exec")));
 
 static void *first_address(void) {
     return (void *)(uintptr_t)MPHEAP_FIRST_ADDRESS;

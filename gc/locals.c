@@ -30,7 +30,8 @@ bool mpgc_can_be_read(const char *at)
     return syscall(SYS_rt_sigprocmask, NO_WAY, at, NULL, BYTES) == 0 || errno != EFAULT;
 }
 
-// What is there may be of an object that was unloaded, and shorter, since the thread hasn't looked again.
+// What is there may be of an object that was unloaded, and shorter, since the thread hasn't looked again; and of this thread too, while
+// another one loads an object in that one's place.
 static void scan_as_far_as_it_goes(const char *from, const char *to, void (*scan)(const char *from, const char *to))
 {
     int kept = errno;
@@ -48,10 +49,11 @@ void mpgc_scan_locals(const struct thread *thread, size_t module, size_t bytes, 
     if (module > (size_t)(uintptr_t)vector[-1].at) return;  // loaded since this thread last looked
     const char *data = vector[module].at;
     if (!data || data == (const char *)-1) return;          // not there yet
+    bool goes_past = data < thread->pointer && data + bytes > thread->pointer;  // where it was there when the thread began it lies before that
     if (vector[module].whole)
         scan_as_far_as_it_goes(data, data + bytes, scan);
     else
-        scan(data, data + bytes);
+        scan(data, goes_past ? thread->pointer : data + bytes);
 }
 
 // What the C library keeps free beside the first thread's data: it lies below that of all objects that came with the program.

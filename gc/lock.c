@@ -24,7 +24,7 @@
 #define WAITED_FOR ((uint32_t)1 << 31)
 enum { SPINS = 500, MOST_WAYS = 16, VAIN = 3 };  // looks: some tens of microseconds; and so often one is woken in vain without a word
 
-_Thread_local unsigned mpgc_lock_depth;
+_Thread_local unsigned mpgc_lock_depth __attribute__((tls_model("initial-exec")));
 static _Atomic uint32_t word;  // the number of the thread that has it, or 0; and whether others wait
 static _Thread_local uint32_t me __attribute__((tls_model("initial-exec")));
 static _Atomic uint32_t waiting;  // so many threads wait for it

@@ -118,13 +118,11 @@ static void scan_segment(const struct dl_phdr_info *object, const ElfW(Phdr) *se
 }
 
 // Counted under threads.
-// This thread's is told by the loader; of others what is there.
 static void scan_local(const struct dl_phdr_info *object, size_t bytes)
 {
-    if (object->dlpi_tls_data) scan(object->dlpi_tls_data, (const char *)object->dlpi_tls_data + bytes);
     for (const struct thread *one = mpgc.threads; one; one = one->next) {
         bool is_there = one->state == RUNNING || one->state == BLOCKED;
-        if (is_there && one != mpgc_self) mpgc_scan_locals(one, object->dlpi_tls_modid, bytes, scan);
+        if (is_there) mpgc_scan_locals(one, object->dlpi_tls_modid, bytes, scan);
     }
 }
 

@@ -19,7 +19,7 @@
 SHOWN int GC_pthread_create(pthread_t *thread, const pthread_attr_t *attributes, void *(*start)(void *), void *data);
 SHOWN _Noreturn void GC_pthread_exit(void *answer);
 
-_Thread_local struct thread *mpgc_self;
+_Thread_local struct thread *mpgc_self __attribute__((tls_model("initial-exec")));
 
 static pthread_key_t key;
 enum { LAST_ROUND = 3 };  // of destructors of keys, of which the C library makes 4

@@ -8,9 +8,9 @@
 
 extern void *__libc_stack_end;
 
-static _Thread_local stack_t asked;  // by the program
-static _Thread_local void *place;    // for this one, or for none
-static _Thread_local size_t bytes;
+static _Thread_local stack_t asked __attribute__((tls_model("initial-exec")));  // by the program
+static _Thread_local void *place __attribute__((tls_model("initial-exec")));    // for this one, or for none
+static _Thread_local size_t bytes __attribute__((tls_model("initial-exec")));
 
 static bool is_on_own_stack(const char *at)
 {

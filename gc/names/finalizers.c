@@ -220,8 +220,8 @@ int GC_invoke_finalizers(void)
 }
 
 // Where this thread's finalizers are called, if it is there that it calls them.
-static _Thread_local char *calling_at;
-static _Thread_local GC_word told_at;
+static _Thread_local char *calling_at __attribute__((tls_model("initial-exec")));
+static _Thread_local GC_word told_at __attribute__((tls_model("initial-exec")));
 
 // After a request or a collection. A finalizer that makes requests doesn't call others; one that was jumped out of isn't running.
 void mpgc_tell_ready(void)

@@ -265,11 +265,12 @@ static void reading(void)
 }
 
 /* Objects that are loaded and taken away, whose data and thread-local data name objects. */
-static const char *path;
+static const char *path, *larger;
+static int both;
 static void *load(void *seed)
 {
     while (!is_over) {
-        void *object = dlopen(path, RTLD_NOW);
+        void *object = dlopen(both && (uintptr_t)seed % 20000 ? larger : path, RTLD_NOW);
         void **(*place)(void);
         void *found = object ? dlsym(object, "thread_place") : NULL;
         if (!found) {
@@ -281,19 +282,29 @@ static void *load(void *seed)
         for (int k = 0; k < 3; k++) list_of(1, 300);
         bad += !is_list(*place(), (uintptr_t)seed, 300);
         dlclose(object);
+        for (int k = 0; both && k < 3; k++) GC_gcollect(); /* while others load theirs in its place */
         rounds++;
     }
     return seed;
 }
 static void loading(void)
 {
+    both = 0;
     start(load);
     while (rounds < 300 && bad == 0) GC_gcollect();
     CHECK(stop());
 }
 
+/* The same of two objects, which come in each other's place: one has more thread-local data. */
+static void loading_both(void)
+{
+    both = 1;
+    start(load);
+    while (rounds < 400 && bad == 0) sched_yield();
+    CHECK(stop());
+}
+
 /* An object with more thread-local data comes in the place of one whose data a thread has still. */
-static const char *larger;
 static void **(*place)(void);
 static _Atomic int has_looked;
 static void *look_once(void *seed)
@@ -389,6 +400,7 @@ int main(int count, char **words)
     within_time(blocked);
     within_time(endings);
     if (path) within_time(loading);
+    if (larger) within_time(loading_both);
     if (larger) within_time(replaced);
     if (initial) within_time(in_the_room);
     within_time(looking);

@@ -13,6 +13,9 @@ else
     skip libgc1 "its names, but for the list of those of 8.2.2"
 fi
 
+# Who asks the loader where thread-local data is may wait for a thread that is stopped while it loads an object.
+is "what is thread-local is found without the loader" "" "$(nm -u "$room/libmpgc.so" | grep -o __tls_get_addr)"
+
 # The names and the wrapped functions reach no more of the layer than front.h declares, and the compiler refuses them what could lose an
 # object.
 grep -oh '\bmpgc_[a-z_]*' "$top/gc/front.h" "$top/gc/names/asked.h" | sort -u >"$room/asked"
