@@ -29,7 +29,7 @@ unfound : (o : Option Found) → ((f : Found) → o ≡ Some f → ⊥) → o �
 unfound None n = refl
 unfound (Some f) n = absurd (n f refl)
 
-not_true : (b : Bool) → (b ≡ true → ⊥) → b ≡ false
+pub not_true : (b : Bool) → (b ≡ true → ⊥) → b ≡ false
 not_true true n = absurd (n refl)
 not_true false n = refl
 

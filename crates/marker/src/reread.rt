@@ -1,8 +1,8 @@
 //! The reading again of a page's marked objects.
-ghost use Rattle.std.specs.Prelude.{◌≡◌, ℕ, ◌+◌, ◌*◌, ◌%◌, ◌<◌, ◌≤◌, true, false, length, MatchOption};
+ghost use Rattle.std.specs.Prelude.{◌≡◌, ℕ, ◌+◌, ◌*◌, ◌%◌, ◌<◌, ◌≤◌, true, false, length};
 ghost use Rattle.words.specs.declared.limits.TheConstants.{FIRST_ADDRESS, PAGE_BYTES, PAGE_GRANULES, PAGE_WORDS, WORD_BYTES};
 ghost use Rattle.words.specs.declared.class.Kind.TheVariants.{Normal};
-ghost use Rattle.words.specs.Bits.{Has, HasNoBit, IsFirstBit};
+ghost use Rattle.words.specs.Bits.{Has};
 ghost use Rattle.words.specs.Layout.{granule, page_start};
 ghost use Rattle.block_map.specs.States.{cut, state_at};
 ghost use Rattle.block_map.specs.Walks.{IsNextObject};
@@ -21,21 +21,6 @@ use words::{Kind, PageNo, page_start};
 
 // The words of 64 mark bits that a page has.
 const MARK_WORDS: usize = (PAGE_GRANULES / 64) as usize;
-
-// The lowest bit of a word from the bit `low` on that is set.
-#[inline]
-fn next_mark(word: u64, low: u32) -> Option<u32>
-    ensures { MatchOption result (HasNoBit word true low) (λ i. IsFirstBit word true low i) }
-{
-    if low >= 64 {
-        return None;
-    }
-    let rest = word >> low;
-    if rest == 0 {
-        return None;
-    }
-    Some(low + rest.trailing_zeros())
-}
 
 impl Marker {
     // Reads the words of marked Normal objects on a page again, object by object.
@@ -102,6 +87,7 @@ impl Marker {
     }
 
     // Reads the words of the objects of a block again that begin at the 64 granules from 64 j on and are marked.
+    #[inline(never)]
     fn reread_marked(
         &mut self,
         map: &BlockMap,
@@ -128,10 +114,11 @@ impl Marker {
     {
         self.laws();
         let marks = self.marks.word(j);
-        let mut low = 0;
-        while let Some(i) = next_mark(marks, low) {
-            self.reread_at(map, heap_bytes, reader, page, block, 64 * j + i as usize);
-            low = i + 1;
+        let mut rest = marks;
+        while rest != 0 {
+            let granule = 64 * j + rest.trailing_zeros() as usize;
+            self.reread_at(map, heap_bytes, reader, page, block, granule);
+            rest &= rest - 1;
         }
     }
 
@@ -166,7 +153,7 @@ impl Marker {
         let base = FIRST_ADDRESS + GRANULE_BYTES * granule as u64;
         let found = object_in_block(page, block, base);
         // The block's objects end on its page, so that all their words are read, and the number of them is the block's.
-        self.mark_words(map, heap_bytes, reader, found, 0, u64::from(found.len));
+        self.mark_object(map, heap_bytes, reader, found);
     }
 
     // Whether an object's words are read: it is a marked Normal one.

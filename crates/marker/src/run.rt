@@ -176,6 +176,36 @@ impl Marker {
         }
     }
 
+    // Marks what all words of an object point into, which stand on one page. Of two and of four words, as most objects have, a compiler
+    // makes no loop. It is part of each caller, or an object would go there by memory.
+    #[inline(always)]
+    pub(crate) fn mark_object(
+        &mut self,
+        map: &BlockMap,
+        heap_bytes: u64,
+        reader: &mut Reader,
+        found: Found,
+    )
+        requires pages { length self.old.dirty ≡ length map.now }
+        requires objects { AreMarksObjects (found_in map.now) self.old }
+        requires lawful { IsLawful map.now }
+        requires bytes { heap_bytes ≡ PAGE_BYTES * length map.now }
+        requires memory { length reader.old.words ≡ PAGE_WORDS * length map.now }
+        requires placed { IsPlaced (length map.now) found }
+        requires one_page { (i : ℕ) → 0 ≤ i → i < 0 + found.len → page_of (word_address found i) ≡ page_of (word_address found 0) }
+        ensures row { MarksRow (found_in map.now) reader.old.moments found 0 found.len (PAGE_BYTES * length map.now) (page_of (word_address found 0)) self.old self.new }
+        ensures words { reader.new.words ≡ reader.old.words }
+        ensures moments { reader.new.moments ≡ reader.old.moments }
+        ensures counted { reader.new.reads ≡ reader.old.reads + found.len }
+        ensures objects { AreMarksObjects (found_in map.now) self.new }
+    {
+        match found.len {
+            2 => self.mark_words(map, heap_bytes, reader, found, 0, 2),
+            4 => self.mark_words(map, heap_bytes, reader, found, 0, 4),
+            len => self.mark_words(map, heap_bytes, reader, found, 0, u64::from(len)),
+        }
+    }
+
     /// Marks the objects that root words point into. Entries stay where they are.
     pub fn scan_roots(&mut self, map: &BlockMap, roots: &[u64])
         requires pages { length self.old.dirty ≡ length map.now }

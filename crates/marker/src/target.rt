@@ -1,5 +1,5 @@
 //! The marking of the object that one word points into.
-ghost use Rattle.std.specs.Prelude.{◌≡◌, ℕ, ◌+◌, ◌*◌, ◌%◌, ◌<◌, ◌≤◌, [], ◌∷◌, true, length, Option, Some};
+ghost use Rattle.std.specs.Prelude.{◌≡◌, ℕ, ◌+◌, ◌*◌, ◌%◌, ◌<◌, ◌≤◌, [], ◌∷◌, true, false, length, Option, Some};
 ghost use Rattle.words.specs.declared.limits.TheConstants.{FIRST_ADDRESS, GRANULE_BYTES, MARK_STACK_ENTRIES, PAGE_BYTES};
 ghost use Rattle.words.specs.Bits.{Has};
 ghost use Rattle.words.specs.Layout.{granule};
@@ -52,6 +52,7 @@ impl Marker {
         requires objects { AreMarksObjects (found_in map.now) self.old }
         requires lawful { IsLawful map.now }
         requires inside { (FIRST_ADDRESS ≤ word) × (word < FIRST_ADDRESS + PAGE_BYTES * length map.now) }
+        requires unmarked { word % GRANULE_BYTES ≡ 0 → Has self.old.marks (granule word) → ⊥ }
         ensures marks { MarksWord (found_in map.now) word self.old self.new }
         ensures stray { TellsStray (found_in map.now) (PAGE_BYTES * length map.now) (word ∷ []) result }
         ensures objects { AreMarksObjects (found_in map.now) self.new }
@@ -66,7 +67,11 @@ impl Marker {
         let Some(found) = answer else {
             return true;
         };
-        self.mark_with_room(found);
+        if found.base != word {
+            self.mark_inside(found.base, found.kind);
+            return false;
+        }
+        self.mark_base(word, found.kind);
         false
     }
 
@@ -75,6 +80,7 @@ impl Marker {
     fn is_marked_base(&self, word: u64) -> bool
         requires inside { (FIRST_ADDRESS ≤ word) × (granule word < length self.now.marks) }
         ensures yes { result ≡ true → (word % GRANULE_BYTES ≡ 0) × Has self.now.marks (granule word) }
+        ensures no { result ≡ false → word % GRANULE_BYTES ≡ 0 → Has self.now.marks (granule word) → ⊥ }
     {
         word % GRANULE_BYTES == 0 && self.marks.is_set(granule_of(word))
     }
@@ -96,19 +102,31 @@ impl Marker {
         false
     }
 
-    // Marks an object that a word points into, where the stack has room for it.
+    // Marks an unmarked object that a word points into, where the stack has room for it.
     #[inline]
-    fn mark_with_room(&mut self, found: Found)
-        requires placed { IsPlaced (length self.old.dirty) found }
+    fn mark_base(&mut self, base: u64, kind: Kind)
+        requires low { FIRST_ADDRESS ≤ base }
+        requires inside { granule base < length self.old.marks }
+        requires unmarked { Has self.old.marks (granule base) → ⊥ }
         requires room { length self.old.stack < MARK_STACK_ENTRIES }
-        ensures { (objects : ℕ → Option Found) (word : ℕ) → objects word ≡ Some found → MarksWord objects word self.old self.new }
+        ensures { (objects : ℕ → Option Found) (word : ℕ) (f : Found) → objects word ≡ Some f → f.base ≡ base → f.kind ≡ kind → MarksWord objects word self.old self.new }
     {
-        let granule = granule_of(found.base);
-        if self.marks.is_set(granule) {
-            return;
+        self.marks.set(granule_of(base));
+        self.await_with_room(base, kind);
+    }
+
+    // Marks an object that a word points into which isn't its base. It is a call, so that a processor that foresees none goes on with the
+    // word as the base, and waits for no look-up.
+    #[inline(never)]
+    fn mark_inside(&mut self, base: u64, kind: Kind)
+        requires low { FIRST_ADDRESS ≤ base }
+        requires inside { granule base < length self.old.marks }
+        requires room { length self.old.stack < MARK_STACK_ENTRIES }
+        ensures { (objects : ℕ → Option Found) (word : ℕ) (f : Found) → objects word ≡ Some f → f.base ≡ base → f.kind ≡ kind → MarksWord objects word self.old self.new }
+    {
+        if !self.is_marked(base) {
+            self.mark_base(base, kind);
         }
-        self.marks.set(granule);
-        self.await_with_room(found);
     }
 
     // Marks an object that a word points into.
@@ -135,7 +153,7 @@ impl Marker {
         ensures awaits { Awaits found self.old self.new }
     {
         if !self.stack.is_full() {
-            self.await_with_room(found);
+            self.await_with_room(found.base, found.kind);
         } else if found.kind == Kind::Normal {
             dirty_object(&mut self.dirty, found);
         }
@@ -143,19 +161,16 @@ impl Marker {
 
     // The same, where the stack has room.
     #[inline]
-    fn await_with_room(&mut self, found: Found)
+    fn await_with_room(&mut self, base: u64, kind: Kind)
         requires { length self.old.stack < MARK_STACK_ENTRIES }
         ensures marks { self.new.marks ≡ self.old.marks }
         ensures carried { self.new.carried ≡ self.old.carried }
         ensures current { self.new.current ≡ self.old.current }
-        ensures awaits { Awaits found self.old self.new }
+        ensures awaits { (f : Found) → f.base ≡ base → f.kind ≡ kind → Awaits f self.old self.new }
     {
-        if found.kind == Kind::PointerFree {
+        if kind == Kind::PointerFree {
             return;
         }
-        self.stack.push(Entry {
-            base: found.base,
-            next: 0,
-        });
+        self.stack.push(Entry { base, next: 0 });
     }
 }

@@ -88,7 +88,7 @@ impl Marker {
     {
         self.laws();
         self.drop_top();
-        self.mark_words(map, heap_bytes, reader, found, 0, u64::from(found.len));
+        self.mark_object(map, heap_bytes, reader, found);
     }
 
     // Reads the object of the entry on top of the stack whole, if that entry is known to have words and it has as many at most as are

@@ -35,3 +35,6 @@ returns-then-is_marked_base-clause-marks c = word_marked (found_in c.args.map.no
 pub returns-then-is_marked_base-clause-stray : goal.returns-then-is_marked_base-clause-stray
 returns-then-is_marked_base-clause-stray c = tells_marked (found_in c.args.map.now) (PAGE_BYTES * length c.args.map.now) c.args.self.now c.args.word
     (marked_base (length c.args.map.now) (found_in c.args.map.now) c.args.self.now c.args.word c.requires.lawful.map c.requires.objects (inside (goal.at.returns-then-is_marked_base-clause-stray c).After-laws).0 (c.is_marked_base.ensures.yes c.if-is_marked_base.true).0 (c.is_marked_base.ensures.yes c.if-is_marked_base.true).1)
+
+pub mark_target-requires-clause-unmarked : goal.mark_target-requires-clause-unmarked
+mark_target-requires-clause-unmarked c = c.is_marked_base.ensures.no c.if-is_marked_base.false

@@ -11,7 +11,7 @@ use Rattle.marker.proofs.Closures.{at_base, marks_of}
 use Rattle.marker.proofs.Beside.{row_carries, row_marks}
 use Rattle.marker.proofs.Rereading.{found_cut, marked_cell, objects_words}
 use Rattle.marker.proofs.marker.Marker.reread_at.Goals as goal
-use Rattle.marker.proofs.marker.Marker.reread_at.Goals.{After-laws, After-mark_words}
+use Rattle.marker.proofs.marker.Marker.reread_at.Goals.{After-laws, After-mark_object}
 
 -- what the granule's address finds is told by the block
 here : (c : After-laws) → found_in c.args.map.now (FIRST_ADDRESS + GRANULE_BYTES * c.args.granule) ≡ found_in_block c.args.page c.args.block.now (FIRST_ADDRESS + GRANULE_BYTES * c.args.granule)
@@ -21,20 +21,20 @@ pub object_in_block-found-requires-clause-base : goal.object_in_block-found-requ
 object_in_block-found-requires-clause-base c =
     let on = c.requires.on in marked_cell c.args.map.now c.args.page c.args.granule c.args.block.now c.args.self.now c.requires.lawful.map c.requires.objects c.requires.marked c.requires.cut on.0 on.1
 
-pub mark_words-requires-clause-placed : goal.mark_words-requires-clause-placed
-mark_words-requires-clause-placed c = c.requires.lawful.map.placed _ c.object_in_block-found.result (here (goal.at.mark_words-requires-clause-placed c).After-laws ∙ c.object_in_block-found.ensures.object)
+pub mark_object-requires-clause-placed : goal.mark_object-requires-clause-placed
+mark_object-requires-clause-placed c = c.requires.lawful.map.placed _ c.object_in_block-found.result (here (goal.at.mark_object-requires-clause-placed c).After-laws ∙ c.object_in_block-found.ensures.object)
 
-pub mark_words-requires-clause-one_page : goal.mark_words-requires-clause-one_page
-mark_words-requires-clause-one_page c i from below =
+pub mark_object-requires-clause-one_page : goal.mark_object-requires-clause-one_page
+mark_object-requires-clause-one_page c i from below =
     let base : c.object_in_block-found.result.base ≡ FIRST_ADDRESS + GRANULE_BYTES * c.args.granule = c.object_in_block-found.ensures.base in
     let ends = c.object_in_block-found.ensures.on_page in let on = c.requires.on in let low = on.0 in let high = on.1 in
     omega arith
 
 -- the object's words stand on the page
-on_page : (c : After-mark_words) (i : ℕ) → 0 ≤ i → i < 0 + c.from.result → page_of (word_address c.object_in_block-found.result i) ≡ c.args.page
+on_page : (c : After-mark_object) (i : ℕ) → 0 ≤ i → i < 0 + c.object_in_block-found.result.len → page_of (word_address c.object_in_block-found.result i) ≡ c.args.page
 on_page c i from below =
     let base : c.object_in_block-found.result.base ≡ FIRST_ADDRESS + GRANULE_BYTES * c.args.granule = c.object_in_block-found.ensures.base in
-    let ends = c.object_in_block-found.ensures.on_page in let on = c.requires.on in let low = on.0 in let high = on.1 in let len = c.from.ensures in
+    let ends = c.object_in_block-found.ensures.on_page in let on = c.requires.on in let low = on.0 in let high = on.1 in
     omega arith
 
 pub returns-clause-rereads : goal.returns-clause-rereads
@@ -42,13 +42,13 @@ returns-clause-rereads c =
     let is = here (goal.at.returns-clause-rereads c).After-laws ∙ c.object_in_block-found.ensures.object in
     let base : c.object_in_block-found.result.base ≡ FIRST_ADDRESS + GRANULE_BYTES * c.args.granule = c.object_in_block-found.ensures.base in
     let ends = c.object_in_block-found.ensures.on_page in let on = c.requires.on in let low = on.0 in let high = on.1 in
-    let reads = c.mark_words.ensures.counted in let len = c.from.ensures in
-    objects_words (length c.args.map.now) (found_in c.args.map.now) c.requires.lawful.map c.args.reader.now.words c.args.self.now (page_start (c.args.page + 1)) c.args.granule (c.object_in_block-found.result.base + WORD_BYTES * c.from.result) c.from.result
-    c.args.reader.now.reads c.mark_words.new.reader.reads (page_of (word_address c.object_in_block-found.result 0)) c.object_in_block-found.result c.args.self.now c.mark_words.new.self
+    let reads = c.mark_object.ensures.counted in
+    objects_words (length c.args.map.now) (found_in c.args.map.now) c.requires.lawful.map c.args.reader.now.words c.args.self.now (page_start (c.args.page + 1)) c.args.granule (c.object_in_block-found.result.base + WORD_BYTES * c.object_in_block-found.result.len) c.object_in_block-found.result.len
+    c.args.reader.now.reads c.mark_object.new.reader.reads (page_of (word_address c.object_in_block-found.result 0)) c.object_in_block-found.result c.args.self.now c.mark_object.new.self
     (λ i from below. omega arith)
-    (subst (λ (k : ℕ). CarriesPage (found_in c.args.map.now) (PAGE_BYTES * k) (words_from c.args.reader.now.words c.object_in_block-found.result 0 c.from.result) (page_of (word_address c.object_in_block-found.result 0)) c.args.self.now.carried c.mark_words.new.self.carried) (sym c.requires.pages) (row_carries (found_in c.args.map.now) c.args.reader.now.words c.args.reader.now.moments c.object_in_block-found.result 0 c.from.result _ _ c.args.page c.args.self.now c.mark_words.new.self c.requires.still (at_base (length c.args.map.now) (found_in c.args.map.now) c.requires.lawful.map _ c.object_in_block-found.result is) (ap (λ (x : Found). x.kind) (block_object c.args.page _ c.args.block.now c.object_in_block-found.result c.object_in_block-found.ensures.object).0 ∙ c.requires.normal) (omega arith) (on_page (goal.at.returns-clause-rereads c).After-mark_words) c.mark_words.ensures.row))
+    (subst (λ (k : ℕ). CarriesPage (found_in c.args.map.now) (PAGE_BYTES * k) (words_from c.args.reader.now.words c.object_in_block-found.result 0 c.object_in_block-found.result.len) (page_of (word_address c.object_in_block-found.result 0)) c.args.self.now.carried c.mark_object.new.self.carried) (sym c.requires.pages) (row_carries (found_in c.args.map.now) c.args.reader.now.words c.args.reader.now.moments c.object_in_block-found.result 0 c.object_in_block-found.result.len _ _ c.args.page c.args.self.now c.mark_object.new.self c.requires.still (at_base (length c.args.map.now) (found_in c.args.map.now) c.requires.lawful.map _ c.object_in_block-found.result is) (ap (λ (x : Found). x.kind) (block_object c.args.page _ c.args.block.now c.object_in_block-found.result c.object_in_block-found.ensures.object).0 ∙ c.requires.normal) (omega arith) (on_page (goal.at.returns-clause-rereads c).After-mark_object) c.mark_object.ensures.row))
     (marks_of _ _ c.laws.ensures c.requires.pages) (omega arith)
     (at_base (length c.args.map.now) (found_in c.args.map.now) c.requires.lawful.map _ c.object_in_block-found.result is)
     (ap (λ (x : Found). x.kind) (block_object c.args.page _ c.args.block.now c.object_in_block-found.result c.object_in_block-found.ensures.object).0 ∙ c.requires.normal)
     (subst (Has c.args.self.now.marks) (omega arith) c.requires.marked) (omega arith) (omega arith) refl (omega arith) (inl (omega arith)) (omega arith)
-    (row_marks (found_in c.args.map.now) c.args.reader.now.words c.args.reader.now.moments c.object_in_block-found.result 0 c.from.result _ _ c.args.page c.args.self.now c.mark_words.new.self c.requires.still (at_base (length c.args.map.now) (found_in c.args.map.now) c.requires.lawful.map _ c.object_in_block-found.result is) (ap (λ (x : Found). x.kind) (block_object c.args.page _ c.args.block.now c.object_in_block-found.result c.object_in_block-found.ensures.object).0 ∙ c.requires.normal) (omega arith) (on_page (goal.at.returns-clause-rereads c).After-mark_words) c.mark_words.ensures.row)
+    (row_marks (found_in c.args.map.now) c.args.reader.now.words c.args.reader.now.moments c.object_in_block-found.result 0 c.object_in_block-found.result.len _ _ c.args.page c.args.self.now c.mark_object.new.self c.requires.still (at_base (length c.args.map.now) (found_in c.args.map.now) c.requires.lawful.map _ c.object_in_block-found.result is) (ap (λ (x : Found). x.kind) (block_object c.args.page _ c.args.block.now c.object_in_block-found.result c.object_in_block-found.ensures.object).0 ∙ c.requires.normal) (omega arith) (on_page (goal.at.returns-clause-rereads c).After-mark_object) c.mark_object.ensures.row)
