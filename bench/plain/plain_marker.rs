@@ -176,6 +176,16 @@ impl Marker {
         }
     }
 
+    // All words of an object, which stand on one page: of two and of four a compiler makes no loop.
+    #[inline(always)]
+    fn mark_object(&mut self, map: &[Page], heap_bytes: u64, memory: &[u64], base: u64, len: u32) {
+        match len {
+            2 => self.mark_words(map, heap_bytes, memory, base, 0, 2),
+            4 => self.mark_words(map, heap_bytes, memory, base, 0, 4),
+            _ => self.mark_words(map, heap_bytes, memory, base, 0, u64::from(len)),
+        }
+    }
+
     // The object of which an entry has words left.
     fn unread(&self, map: &[Page], (base, next): (u64, u32)) -> Option<Found> {
         let found = find(map, base)?;
@@ -306,7 +316,7 @@ impl Marker {
         }
         let depth = self.len;
         self.len -= 1;
-        self.mark_words(map, heap_bytes, memory, found.base, 0, len);
+        self.mark_object(map, heap_bytes, memory, found.base, found.len);
         self.current = Some((found.base, found.len));
         self.bring_nearer(depth, found.base);
         len
@@ -367,7 +377,7 @@ impl Marker {
     #[inline]
     fn reread_at(&mut self, map: &[Page], heap_bytes: u64, memory: &[u64], page: u32, block: &Block, granule: usize) {
         let found = object_in_block(page, block, START + 16 * granule as u64);
-        self.mark_words(map, heap_bytes, memory, found.base, 0, u64::from(found.len));
+        self.mark_object(map, heap_bytes, memory, found.base, found.len);
     }
 
     fn reread_cells(&mut self, map: &[Page], heap_bytes: u64, memory: &[u64], page: u32, block: &Block) {
@@ -375,11 +385,16 @@ impl Marker {
             return;
         }
         for word in 4 * page as usize..4 * page as usize + 4 {
-            let mut left = self.marks[word];
-            while left != 0 {
-                self.reread_at(map, heap_bytes, memory, page, block, 64 * word + left.trailing_zeros() as usize);
-                left &= left - 1;
-            }
+            self.reread_marked(map, heap_bytes, memory, page, block, word);
+        }
+    }
+
+    #[inline(never)]
+    fn reread_marked(&mut self, map: &[Page], heap_bytes: u64, memory: &[u64], page: u32, block: &Block, word: usize) {
+        let mut rest = self.marks[word];
+        while rest != 0 {
+            self.reread_at(map, heap_bytes, memory, page, block, 64 * word + rest.trailing_zeros() as usize);
+            rest &= rest - 1;
         }
     }
 
