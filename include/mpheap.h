@@ -327,7 +327,7 @@ uint32_t mpheap_retrace_page_beside(mpheap *heap, uint32_t page, const mpheap_as
  * Each of these calls but mpheap_help is made by one thread at a time, on a stack of 1 MB or more. mpheap_help may run on several
  * threads at once, each with a handle of its own; what was written before a handle comes to another thread has to be seen there, as by a
  * lock. Memory is asked for by the open (some 100 bytes), by mpheap_share (some hundred KB for each helper, and some 32 bytes for each
- * page that was ever used), by mpheap_hire (some 10 KB), and perhaps by mpheap_join; mpheap_help and mpheap_gather ask for none.
+ * page that was ever used) and by mpheap_hire (some 20 KB); mpheap_help, mpheap_join and mpheap_gather ask for none.
  *
  * Besides, as with heaps: a handle begins as MPHEAP_NO_SHARES, and is not copied; an open one is not opened again; and each other call is made
  * on handles that are open, and two of one call are two. */
@@ -360,15 +360,14 @@ uint32_t mpheap_hire(mpheap_shares *all, mpheap_shares *one);
 uint64_t mpheap_help(mpheap_shares *some, uint64_t most);
 
 /* The shares of *one come back behind those of *all, and *one is empty. Both are of one round: nothing checks this. BAD_NUMBER: one of the two
- * is empty, or they aren't the next behind those of *all, since another one was hired later and is still out, or memory was refused. Then
- * nothing has changed. */
+ * is empty, or they aren't the next behind those of *all, since another one was hired later and is still out. Then nothing has changed. */
 uint32_t mpheap_join(mpheap_shares *all, mpheap_shares *one);
 
 /* What the helpers of a round did is put together: *heap, which is closed, is open again, and *all empty. Shares whose work wasn't done
  * are done here, however much it is. No entry is left then, and the dirty pages are those that newly marked objects lie on which weren't
  * read: mpheap_mark and mpheap_finish go on from there, or another mpheap_share. All others are clean, those too that were told before
- * mpheap_share: so what is written there by pointers is told anew. BAD_NUMBER: *all is empty, or another place has still
- * shares of the round. Then *heap stays closed, and nothing is lost. */
+ * mpheap_share: so what is written there by pointers is told anew. BAD_NUMBER: *all is empty; or a share of the round is out, and nothing has
+ * changed; or none is, but another place, from which the last one went, knows the round still. Then *heap stays closed, and nothing is lost. */
 uint32_t mpheap_gather(mpheap_shares *all, mpheap *heap);
 
 /* ---- Memory that the caller lends ----

@@ -1,6 +1,7 @@
 -- Shares that are taken from others and come back.
-use Rattle.std.proofs.Common.{◌≡◌, ℕ, ◌+◌, ◌-◌, ◌<◌, ◌≤◌, List, [], ◌∷◌, ◌++◌, length, get_or, sym, subst, ap, ◌∙◌, ⊎_elim, arith}
-use Rattle.std.proofs.lemmas.Bool.{cases_lt}
+use Rattle.std.proofs.Common.{◌≡◌, ℕ, ◌+◌, ◌-◌, ◌*◌, ◌<◌, ◌≤◌, Bool, true, false, refl, List, [], ◌∷◌, ◌++◌, length, get_or, sym, subst, ap, ◌∙◌, ⊎_elim, arith}
+use Rattle.std.proofs.lemmas.Bool.{cases_lt, false≢true}
+use Rattle.std.proofs.Math.Nat.{mul-suc}
 use Rattle.std.proofs.lemmas.List.{get_or-append-add}
 use Rattle.std.proofs.lemmas.List.{length-append}
 use Rattle.std.proofs.Math.ListN.{get_or-append}
@@ -9,6 +10,13 @@ use Rattle.final_pause.specs.declared.helper.Helper.{Helper}
 use Rattle.final_pause.specs.Pauses.{PauseView}
 use Rattle.final_pause.specs.Serving.{IsServing, HasServed}
 use Rattle.final_pause.specs.Rounds.{AreServing, AreServed}
+use Rattle.final_pause.specs.declared.round.Round.{Round}
+use Rattle.heap_core.specs.CoreContents.{CoreContents}
+use Rattle.heap_core.specs.Sharing.{Sharing, AreDone}
+
+-- shares, by what they are made of
+abbrev pub sharing : CoreContents → Round → List Helper → ℕ → Bool → Sharing
+sharing core round crew from done = record { core = core; round = round; crew = crew; from = from; is_done = done }
 
 -- P is true of each helper and its number, from one number on
 abbrev Each : (ℕ → Helper → Type 0) → ℕ → List Helper → Type 0
@@ -80,3 +88,19 @@ module _ (p : PauseView) where
   pub served_append : (from next : ℕ) (front back crew : List Helper) → next ≡ from + length front → crew ≡ front ++ back → AreServed p from front → AreServed p next back → AreServed p from crew
   served_append from next front back crew at is a b =
       subst (AreServed p from) (sym is) (each_append (HasServed p) from front back a (subst (λ (n : ℕ). AreServed p n back) at b))
+
+-- shares that are done stay as they are
+pub done_before : (s : Sharing) → s.is_done ≡ true → AreDone s s
+done_before s e = record {
+  same = ap (sharing s.core s.round s.crew s.from) e;
+  size = refl;
+  again = λ _. refl;
+}
+
+-- those that weren't are done now
+pub done_now : (s : Sharing) (crew : List Helper) → s.is_done ≡ false → length crew ≡ length s.crew → AreDone s (record s { crew = crew; is_done = true })
+done_now s crew e size = record { same = refl; size = size; again = λ done. absurd (false≢true (sym e ∙ done)) }
+
+-- so many words more, of so many for each
+pub few_more : (most at read more sum : ℕ) → sum ≤ read + more → read ≤ most * at → more ≤ most → sum ≤ most * (at + 1)
+few_more most at read more sum least few each = let e = mul-suc most at in omega (arith, e, least, few, each)

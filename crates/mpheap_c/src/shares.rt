@@ -98,7 +98,7 @@ pub extern "C" fn mpheap_hire(alloc: Global, all: &mut Crew, one: &mut Crew) -> 
 #[unsafe(no_mangle)]
 pub extern "C" fn mpheap_help(some: &mut Crew, most: u64) -> u64
     requires open { IsOpen some.old.place }
-    ensures { IsHelped some.old.place some.new.place }
+    ensures { IsHelped most result some.old.place some.new.place }
 {
     match &mut some.place().shares {
         Some(shares) => shares.help(most),
@@ -106,7 +106,7 @@ pub extern "C" fn mpheap_help(some: &mut Crew, most: u64) -> u64
     }
 }
 
-/// Takes shares of the same round back behind those that stand there.
+/// Takes shares of the same round back behind those that stand there. It takes no memory.
 #[unsafe(no_mangle)]
 pub extern "C" fn mpheap_join(all: &mut Crew, one: &mut Crew) -> u32
     requires open { IsOpen all.old.place }

@@ -1,10 +1,10 @@
 //! The marking of a cycle by helpers whom the caller runs: the core is lent to a round of them, shares go to other threads and come back,
 //! and what they won and left is put together.
-ghost use Rattle.std.specs.Prelude.{◌≡◌, ℕ, ◌+◌, ◌<◌, ◌⊎◌, true, false, ◌++◌, IfOk, IfErr, OnOk, IfSome, MatchOption, length, vec_len, slice_index_or};
+ghost use Rattle.std.specs.Prelude.{◌≡◌, ℕ, ◌*◌, ◌<◌, ◌≤◌, ◌⊎◌, true, false, IfOk, IfErr, OnOk, MatchOption, length, vec_len, slice_index_or};
 ghost use Rattle.final_pause.specs.declared.helper.Helper.{Helper as HelperValue};
 ghost use Rattle.final_pause.specs.Serving.{IsServing, HasServed};
-ghost use Rattle.final_pause.specs.Rounds.{IsRound, AreServing, AreServed};
-ghost use Rattle.heap_core.specs.Sharing.{core_view, IsSameRound, HasShares, MarksTogether};
+ghost use Rattle.final_pause.specs.Rounds.{IsRound, IsFresh, AreServing, AreServed};
+ghost use Rattle.heap_core.specs.Sharing.{core_view, IsSameRound, IsDealt, IsLastOut, AreNext, IsAppended, AreDone, AreAll, IsStillOut, MarksTogether};
 
 use super::Core;
 use final_pause::{Helper, Helpers, Round};
@@ -40,13 +40,14 @@ pub struct Shares {
 
 impl Model for Shares {
     ghost use Rattle.std.specs.Arc.{arc_value};
+    ghost use Rattle.std.specs.Prelude.{vec_capacity};
     ghost use Rattle.heap_core.specs.Sharing.{Sharing, IsSharing};
 
     ghost Value = { Sharing };
 
     ghost view = { λ s. record { core = (arc_value s.lent).core.value; round = (arc_value s.lent).round; crew = s.crew.items; from = s.from; is_done = s.is_done } };
 
-    ghost invariant = { λ s. IsSharing (record { core = (arc_value s.lent).core.value; round = (arc_value s.lent).round; crew = s.crew.items; from = s.from; is_done = s.is_done }) };
+    ghost invariant = { λ s. IsSharing (record { core = (arc_value s.lent).core.value; round = (arc_value s.lent).round; crew = s.crew.items; from = s.from; is_done = s.is_done }) (vec_capacity s.crew) };
 }
 
 impl Core {
@@ -56,6 +57,7 @@ impl Core {
         ensures number { IfOk result (λ d. d.0.helpers ≡ helpers.number) }
         ensures round { IfOk result (λ d. IsRound (core_view self.now d.0) d.0) }
         ensures crew { IfOk result (λ d. AreServing (core_view self.now d.0) 0 d.1.items) }
+        ensures fresh { IfOk result (λ d. IsFresh (length self.now.store.states) d.0 d.1.items) }
     {
         let used = self.objects.used();
         self.objects.deal(alloc, &self.marker, used, helpers)
@@ -64,7 +66,8 @@ impl Core {
     // Does a helper's share, and answers how many words it read.
     fn help(&self, round: &Round, most: u64, helper: &mut Helper) -> u64
         requires { IsServing (core_view self.now round.now) helper.old }
-        ensures { HasServed (core_view self.now round.now) helper.old.place helper.new }
+        ensures served { HasServed (core_view self.now round.now) helper.old.place helper.new }
+        ensures few { result ≤ most }
     {
         self.objects.help(round, &self.marker, most, helper)
     }
@@ -85,6 +88,7 @@ impl Core {
 fn help_all(lent: &Lent, most: u64, crew: &mut [Helper]) -> u64
     requires { (i : ℕ) (d : HelperValue) → i < length crew.old → IsServing (core_view lent.now.core.value lent.now.round) (slice_index_or crew.old i d) }
     ensures len { length crew.new ≡ length crew.old }
+    ensures few { result ≤ most * length crew.old }
     ensures served { (i : ℕ) (d : HelperValue) → i < length crew.old → HasServed (core_view lent.now.core.value lent.now.round) (slice_index_or crew.old i d).place (slice_index_or crew.new i d) }
 {
     let mut read = 0u64;
@@ -95,7 +99,7 @@ fn help_all(lent: &Lent, most: u64, crew: &mut [Helper]) -> u64
 }
 
 impl Shares {
-    /// Lends a core: all that its marker has to read is dealt to so many helpers.
+    /// Lends a core: all that its marker has to read is dealt to so many helpers, and none of it is read yet.
     ///
     /// # Errors
     /// The core as it was, with [`NotLent::WrongPhase`] exactly while no cycle is marking, and else [`NotLent::Memory`].
@@ -104,7 +108,7 @@ impl Shares {
         core: Box<Core>,
         helpers: Helpers,
     ) -> Result<Shares, (Box<Core>, NotLent)>
-        ensures ok { IfOk result (λ s. (core.value.cycle.is_marking ≡ true) × (s.core ≡ core.value) × (s.from ≡ 0) × (length s.crew ≡ helpers.number)) }
+        ensures ok { IfOk result (λ s. (core.value.cycle.is_marking ≡ true) × IsDealt core.value helpers.number s) }
         ensures err { IfErr result (λ e. (e.0.value ≡ core.value) × ((e.1 ≡ NotLent.WrongPhase) × (core.value.cycle.is_marking ≡ false) ⊎ (e.1 ≡ NotLent.Memory) × (core.value.cycle.is_marking ≡ true))) }
     {
         if !core.is_marking {
@@ -127,22 +131,47 @@ impl Shares {
         }
     }
 
+    // Whether the places of the others are the next behind these.
+    fn come_before(&self, other: &Shares) -> bool
+        ensures yes { result ≡ true → AreNext self.now other.now }
+        ensures no { result ≡ false → AreNext self.now other.now → ⊥ }
+    {
+        if other.from < self.from {
+            return false;
+        }
+        other.from - self.from == self.crew.len()
+    }
+
+    // Whether these are all shares of the round.
+    fn are_all(&self) -> bool
+        ensures yes { result ≡ true → AreAll self.now }
+        ensures no { result ≡ false → AreAll self.now → ⊥ }
+    {
+        if self.from != 0 {
+            return false;
+        }
+        self.crew.len() == usize::from(self.lent.round.helpers())
+    }
+
     /// Takes the last share out as it is, for another thread, and `None` where there is none.
     ///
     /// # Errors
-    /// [`AllocError`] where a growth of memory was refused. Then nothing has changed.
+    /// [`AllocError`] where there is one and a growth of memory was refused. Then nothing has changed.
     pub fn hire(&mut self, alloc: Global) -> Result<Option<Shares>, AllocError>
-        ensures ok { IfOk result (λ o. MatchOption o ((length self.old.crew ≡ 0) × (self.new ≡ self.old)) (λ one. HasShares self.old self.old.from (length self.new.crew) self.new × HasShares self.old (self.old.from + length self.new.crew) 1 one × (length self.new.crew + 1 ≡ length self.old.crew))) }
-        ensures moved { IfOk result (λ o. IfSome o (λ one. self.old.crew ≡ self.new.crew ++ one.crew)) }
-        ensures err { IfErr result (λ _. self.new ≡ self.old) }
+        ensures ok { IfOk result (λ o. MatchOption o ((length self.old.crew ≡ 0) × (self.new ≡ self.old)) (λ one. IsLastOut self.old self.new one)) }
+        ensures err { IfErr result (λ _. (0 < length self.old.crew) × (self.new ≡ self.old)) }
     {
-        let mut crew = Vec::with_capacity(alloc, 1)?;
+        if self.crew.is_empty() {
+            return Ok(None);
+        }
+        // All that may be joined behind it will have room.
+        let room = usize::from(self.lent.round.helpers());
+        let mut crew = Vec::with_capacity(alloc, room)?;
         let lent = Arc::try_clone(&self.lent)?;
         let Some(helper) = self.crew.pop() else {
             return Ok(None);
         };
         let from = helper.place();
-        // There is room for one.
         let Ok(()) = crew.push(helper) else {
             return Err(AllocError);
         };
@@ -158,7 +187,9 @@ impl Shares {
     /// first to mark; the others are left to their pages. Answers how many they read of these. Shares that are done aren't done again. It
     /// takes no memory.
     pub fn help(&mut self, most: u64) -> u64
-        ensures { HasShares self.old self.old.from (length self.old.crew) self.new × (self.new.is_done ≡ true) }
+        ensures done { AreDone self.old self.new }
+        ensures few { result ≤ most * length self.old.crew }
+        ensures again { self.old.is_done ≡ true → result ≡ 0 }
     {
         if self.is_done {
             return 0;
@@ -168,18 +199,16 @@ impl Shares {
         read
     }
 
-    /// Takes shares of the same round back, of the places behind these. Answers them where they are others, or where a growth of memory was
-    /// refused: then nothing has changed.
+    /// Takes shares of the same round back, as they are, behind these. It takes no memory.
+    ///
+    /// # Errors
+    /// The others, exactly where their places aren't the next behind these. Then nothing has changed.
     pub fn join(&mut self, other: Shares) -> Result<(), Shares>
         requires same { IsSameRound self.old other }
-        ensures ok { IfOk result (λ _. HasShares self.old self.old.from (length self.old.crew + length other.crew) self.new × (other.from ≡ self.old.from + length self.old.crew)) }
-        ensures moved { OnOk result (self.new.crew ≡ self.old.crew ++ other.crew) }
-        ensures err { IfErr result (λ back. (back ≡ other) × (self.new ≡ self.old)) }
+        ensures ok { OnOk result (AreNext self.old other × IsAppended self.old other self.new) }
+        ensures err { IfErr result (λ back. (AreNext self.old other → ⊥) × (back ≡ other) × (self.new ≡ self.old)) }
     {
-        let Some(next) = self.from.checked_add(self.crew.len()) else {
-            return Err(other);
-        };
-        if other.from != next {
+        if !self.come_before(&other) {
             return Err(other);
         }
         let Shares {
@@ -188,6 +217,7 @@ impl Shares {
             from,
             is_done,
         } = other;
+        // There is room for all shares of the round.
         let Ok(()) = self.crew.append(&mut crew) else {
             return Err(Shares {
                 lent,
@@ -203,12 +233,12 @@ impl Shares {
     /// Puts together what all helpers of the round won and left, and gives the core back. Shares that aren't done are done first.
     ///
     /// # Errors
-    /// The shares, where one of the round is out.
+    /// The shares: exactly as they were where one of the round is out, and done where shares of none hold the core still.
     pub fn gather(mut self) -> Result<Box<Core>, Shares>
-        ensures ok { IfOk result (λ core. MarksTogether self.core core.value) }
-        ensures err { IfErr result (λ back. HasShares self self.from (length self.crew) back) }
+        ensures ok { IfOk result (λ core. AreAll self × MarksTogether self.core core.value) }
+        ensures err { IfErr result (λ back. IsStillOut self back) }
     {
-        if self.from != 0 || self.crew.len() != usize::from(self.lent.round.helpers()) {
+        if !self.are_all() {
             return Err(self);
         }
         let _read = self.help(u64::MAX);

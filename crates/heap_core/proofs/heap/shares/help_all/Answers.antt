@@ -5,6 +5,7 @@ use Rattle.final_pause.specs.declared.helper.Helper.{Helper}
 use Rattle.final_pause.specs.Serving.{IsServing, HasServed}
 use Rattle.heap_core.specs.CoreContents.{CoreContents}
 use Rattle.heap_core.specs.Sharing.{core_view}
+use Rattle.heap_core.proofs.Sharing.{few_more}
 use Rattle.heap_core.proofs.heap.shares.help_all.Goals as goal
 
 pub help-requires : goal.help-requires
@@ -21,12 +22,13 @@ loop-helper-preserved c =
     let size = inv.size in
     record {
       size = length-set items at new ∙ inv.size;
+      few = few_more c.args.most at c.loop-helper.read c.help.result _ (let sum = c.saturating_add-read.ensures in omega (arith, sum)) inv.few c.help.ensures.few;
       done = λ i d lt. ⊎_elim
           (λ (e : i ≡ at).
           let h = c.helper-item.result in
           let was : get_or items at h ≡ get_or c.args.crew.now i d = inv.rest at h (omega arith) ∙ (get_or_default c.args.crew.now at h d test ∙ ap (λ (n : ℕ). get_or c.args.crew.now n d) (sym e)) in
           let is : new ≡ get_or (set items at new) i d = sym (ap (λ (n : ℕ). get_or (set items at new) n d) e ∙ get_or-set_same items at new d (omega (arith, test, size))) in
-          let served : HasServed p (get_or items at h).place new = subst (λ (core : CoreContents). HasServed (core_view core c.args.lent.now.round) (get_or items at h).place new) c.deref.ensures c.help.ensures in
+          let served : HasServed p (get_or items at h).place new = subst (λ (core : CoreContents). HasServed (core_view core c.args.lent.now.round) (get_or items at h).place new) c.deref.ensures c.help.ensures.served in
           subst (λ (k : Helper). HasServed p k.place (get_or (set items at new) i d)) was (subst (HasServed p (get_or items at h).place) is served))
           (λ ne. subst (HasServed p (get_or c.args.crew.now i d).place) (sym (get_or-set_other items at i new d ne)) (inv.done i d (omega (arith, lt, ne))))
           (cases_eq i at);

@@ -1,4 +1,6 @@
-use Rattle.std.proofs.Common.{rules, ◌≡◌, ◌+◌, true, length, ap, sym, subst, ◌∙◌}
+use Rattle.std.proofs.Common.{rules, ◌≡◌, ◌+◌, ◌≤◌, true, length, ap, sym, subst, ◌∙◌, arith}
+use Rattle.std.proofs.lemmas.List.{length-append}
+use Rattle.final_pause.specs.declared.round.Round.{Round}
 use Rattle.std.proofs.lemmas.Bool.{false≢true}
 use Rattle.final_pause.specs.Pauses.{PauseView}
 use Rattle.final_pause.specs.Rounds.{AreServing, AreServed}
@@ -24,6 +26,11 @@ invariant_of-self-2 c =
       marking = i.marking;
       round = i.round;
       serving = serving_append p mine.from other.from mine.crew.items other.crew.items c.append.new.self.items next is i.serving serving;
+      inside =
+          let theirs : other.from + length other.crew.items ≤ lent.round.helpers = subst (λ (r : Round). other.from + length other.crew.items ≤ r.helpers) round o.inside in
+          let size : length c.append.new.self.items ≡ length mine.crew.items + length other.crew.items = ap length is ∙ length-append mine.crew.items other.crew.items in
+          omega (arith, theirs, next, size);
+      room = let more = c.append.ensures.capacity in let least = i.room in omega (arith, more, least);
       served = λ done. elim c.if-self.branch [
         | then-self w ↦ served_append p mine.from other.from mine.crew.items other.crew.items c.append.new.self.items next is (i.served w.if-self.true) (served (sym w.self-is ∙ done))
         | else-self w ↦ absurd (false≢true (sym w.if-self.false ∙ (sym w.self-is ∙ done)))
