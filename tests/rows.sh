@@ -119,10 +119,10 @@ open_cases mpheap
 good_scripts
 bad_lines
 workloads
-run_cases 314
+run_cases 316
 open_cases replay
 written_runs
 run_texts
 recorded_runs
-run_cases 329
+run_cases 331
 close_cases

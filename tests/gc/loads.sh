@@ -4,12 +4,11 @@
 #
 # The marker tells by one subtraction whether a word lies in the heap's range of addresses: so in its functions each addition of the negated
 # first address to a register W where W was loaded last stands behind the load of a word of the heap. That has to be a plain mov into all of W,
-# of an operand that the function uses for such loads alone (a second look at the word would use it, too); and from no such load a way leads to
-# one of the same operand, or to itself, on which none of the operand's registers is written. What registers have behind a jump that is always
-# taken is what they had at the first jump to there. A
-# load whose address is computed from the negated first address, or that of the word behind it, is one of the heap too: the first two words of
-# an object, which are looked at later. And no function of the marker may load a vector, but from its stack. What lies on the stack, or far
-# behind a pointer, is a field of the marker's own. It ends with how many places there are, of which it has to find some.
+# and no way leads from it to another use of the same operand, to itself, or from another use to it, on which none of the operand's registers
+# is written: by that the word would be looked at twice. What registers have behind a jump that is always taken is what they had at the first
+# jump to there. A load whose address is computed from the negated first address, or that of the word behind it, is one of the heap too: the
+# first two words of an object, which are looked at later. And no function of the marker may load a vector, but from its stack. What lies on the
+# stack, or far behind a pointer, is a field of the marker's own. It ends with how many places there are, of which it has to find some.
 # (0xffffab0000000000 is that address negated.)
 set -euo pipefail
 least=8
@@ -32,9 +31,8 @@ awk -v least=$least '
     function wrong(what) { print name ": " what ": " $0; failed = 1 }
     /^[0-9a-f]+ <.*>:$/ { ends(); name = $2; is_of_marker = name ~ /marker::/ }
     function ends(at) {
-        for (at in loaded) if (used[at] != loaded[at]) { print name ": " at " is used " used[at] " times, and " loaded[at] " of them are loads"; failed = 1 }
         for (at in loads) look_back(at)
-        split("", loaded); split("", used); split("", loads); split("", is_load); split("", is_left); split("", left)
+        split("", uses); split("", loads); split("", is_load); split("", is_left); split("", left)
         split("", code); split("", place_of); split("", jumps); split("", is_end); split("", writes)
         goes_on = 0
         forget()
@@ -44,16 +42,16 @@ awk -v least=$least '
         if ((at, number) in is_load) return
         is_load[at, number]
         loads[at] = loads[at] " " number
-        loaded[at]++
         count++
     }
-    function look_back(at,    lines, registers, many, count, j, k) {
+    function look_back(at,    here, others, registers, many, others_many, j, k) {
         split("", operand)
-        count = split(at, registers, /[^%a-z0-9]+/)
-        for (k = 1; k <= count; k++) if (registers[k] ~ /^%/) operand[registers[k]]
-        many = split(loads[at], lines, " ")
-        for (j = 1; j <= many; j++) for (k = 1; k <= many; k++) if (leads(lines[j], lines[k])) {
-            print name ": the word is loaded once more: " code[lines[k]]
+        many = split(at, registers, /[^%a-z0-9]+/)
+        for (k = 1; k <= many; k++) if (registers[k] ~ /^%/) operand[registers[k]]
+        many = split(loads[at], here, " ")
+        others_many = split(uses[at], others, " ")
+        for (j = 1; j <= many; j++) for (k = 1; k <= others_many; k++) if (leads(here[j], others[k]) || leads(others[k], here[j])) {
+            print name ": the word is looked at once more: " code[here[j]] ", " code[others[k]]
             failed = 1
         }
     }
@@ -114,7 +112,7 @@ awk -v least=$least '
         operation = text
         sub(/[ \t].*/, "", operation)
         place = operation ~ /^(lea|nop|cs$|data16)/ ? "" : memory(text)
-        if (place != "") used[place]++
+        if (place != "") uses[place] = uses[place] " " NR
         into = text ~ /,%[a-z0-9]+$/ ? substr(text, match(text, /%[a-z0-9]+$/)) : ""
         pointer = place
         gsub(/.*\(|[,)].*/, "", pointer)

@@ -44,6 +44,24 @@ const ROWS: &[Row<'static>] = &[
         }],
     },
     Row {
+        name: "free_page_comes_before_sweeps",
+        pages: 4,
+        pieces: &[Piece {
+            times: 1,
+            script: "attach\n0 alloc 1 2 normal\n0 set 1 0\ngc begin\ngc finish\n0 alloc 1 4 normal\ngc sweep\ngc sweep\n",
+            replies: "mutator 0\nok\nok\nok\n1\nok\n1\n0\n",
+        }],
+    },
+    Row {
+        name: "free_pages_in_a_row_come_before_sweeps",
+        pages: 4,
+        pieces: &[Piece {
+            times: 1,
+            script: "attach\n0 alloc 1 2 normal\n0 set 1 0\ngc begin\ngc finish\n0 alloc 1 1024 normal\n0 size 1\ngc sweep\ngc sweep\n",
+            replies: "mutator 0\nok\nok\nok\n1\nok\n1024\n1\n0\n",
+        }],
+    },
+    Row {
         name: "sweep_two_blocks",
         pages: 4,
         pieces: &[Piece {
