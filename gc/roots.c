@@ -154,25 +154,33 @@ static const char *end_of_signals_stack(void)
     return is_there ? (const char *)alt.ss_sp + alt.ss_size : NULL;
 }
 
-// Does the work with the registers saved, and with the stack's top where the program called in: what the layer and the core leave on the
-// stack below are no roots. Never inlined, so that the saved registers lie below all that the program has. The program may have asked for
-// a larger stack since: so this is asked once more, before the world is stopped, but on a stack of the program's own, or a signal's.
-__attribute__((noinline)) bool mpgc_with_registers(bool (*work)(void *), void *data)
+// Does the work while this thread's stack counts from there on. The program may have asked for a larger one since: so this is asked once more,
+// before the world is stopped, but on a stack of the program's own, or a signal's.
+__attribute__((noinline)) static bool work_below(const char *top, bool (*work)(void *), void *data)
 {
-    uint64_t saved[6] = { 0 };
     struct thread *self = mpgc_self;
     const char *outer = self->top, *outer_alt = self->alt_top, *alt_top = end_of_signals_stack();
-    __asm__ volatile(
-        "movq %%r15, 0(%0)\n\tmovq %%r14, 8(%0)\n\tmovq %%r13, 16(%0)\n\t"
-        "movq %%r12, 24(%0)\n\tmovq %%rbp, 32(%0)\n\tmovq %%rbx, 40(%0)"
-        : : "r"(saved) : "memory");
-    bool is_below = !alt_top && self->low && (const char *)saved < self->low;
-    if (is_below && mpgc_stack_bottom() == self->bottom) mpgc_find_stack(&self->low, &self->bottom);
-    self->top = (const char *)saved;
+    if (!alt_top && self->low && top < self->low && mpgc_stack_bottom() == self->bottom) mpgc_find_stack(&self->low, &self->bottom);
+    self->top = top;
     self->alt_top = alt_top;
     bool answer = work(data);
     self->top = outer;
     self->alt_top = outer_alt;
+    return answer;
+}
+
+// The same with the registers saved, and with the stack's top where the program called in: what the layer and the core leave on the stack
+// below are no roots. Never inlined, so that the saved registers lie below all that the program has; and it does no more, so that it keeps none
+// of them itself.
+__attribute__((noinline)) bool mpgc_with_registers(bool (*work)(void *), void *data)
+{
+    uint64_t saved[6] = { 0 };
+    __asm__ volatile(
+        "movq %%r15, 0(%0)\n\tmovq %%r14, 8(%0)\n\tmovq %%r13, 16(%0)\n\t"
+        "movq %%r12, 24(%0)\n\tmovq %%rbp, 32(%0)\n\tmovq %%rbx, 40(%0)"
+        : : "r"(saved) : "memory");
+    bool answer = work_below((const char *)saved, work, data);
+    __asm__ volatile("" : : "r"(saved) : "memory");  // no call in place of a return: the frame has to stay
     return answer;
 }
 
