@@ -81,12 +81,14 @@ HIDDEN void mpgc_will_write(const void *from, size_t bytes);
 // They stay open, and count as written, until this thread says so, which others may collect meanwhile.
 HIDDEN void mpgc_wrote(void);
 
-// These only read. The object that an address points into, of what kind it is, whether it stays whatever points into it, and whether it is
-// marked.
+// These only read. The object that an address points into, the length of one that begins there, of what kind it is, whether it is marked, whether
+// it is still to be given out (where the lock is had), and whether it stays whatever points into it.
 HIDDEN bool mpgc_find(uintptr_t address, uintptr_t *base, size_t *words);
+HIDDEN size_t mpgc_words_of(uintptr_t base);
 HIDDEN enum page_kind mpgc_kind_at(uintptr_t address);
 HIDDEN int mpgc_described_kind(uintptr_t base);
 HIDDEN bool mpgc_is_marked(uintptr_t base);
+HIDDEN bool mpgc_is_in_run(uintptr_t base);
 HIDDEN bool mpgc_is_uncollectable(uintptr_t base);
 
 // These too. How many pages the heap has, were last given to a kind, have something, have nothing, ever had something, are to be swept, and

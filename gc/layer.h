@@ -225,7 +225,6 @@ HIDDEN void mpgc_push_runs(const struct thread *thread, void (*push)(uint64_t wo
 HIDDEN void mpgc_note_young(const uint64_t *bases, uint64_t count);
 HIDDEN void mpgc_note_freed(uintptr_t base);
 HIDDEN bool mpgc_take_back(uintptr_t base);
-HIDDEN bool mpgc_is_in_run(uintptr_t base);
 
 // Counted under threads.
 // locals.c

@@ -46,7 +46,8 @@ static uint64_t ask(size_t words, enum page_kind kind)
                                   : mpheap_alloc_pointer_free_base(&mpgc.heap, mpgc.slot, INTO, words, &base));
     if (status != MPHEAP_OK) return 0;
     size_t granules = granules_of(words);
-    mpgc.granules[mpgc_page_of(base)] = granules > RUN_GRANULES ? 0 : mpgc_size_for(granules);
+    size_t pages = (words + PAGE / WORD - 1) / (PAGE / WORD);
+    memset(&mpgc.granules[mpgc_page_of(base)], granules > RUN_GRANULES ? 0 : mpgc_size_for(granules), pages);
     bool is_known = mpgc.kind[mpgc_page_of(base)] == kind && words <= PAGE / WORD;
     if (LIKELY(is_known) || mpgc_learn(base, words, kind)) return base;
     mpgc_free_in(base);
@@ -127,21 +128,6 @@ __attribute__((aligned(64))) void *GC_malloc(size_t bytes) { return allocate(byt
 
 __attribute__((aligned(64))) void *GC_malloc_atomic(size_t bytes) { return allocate(bytes, POINTER_FREE); }
 
-// What the program's GC_oom_fn answered lies outside of the heap, and is no object of it.
-static void *keep(void *object)
-{
-    if (!mpgc_is_inside((uintptr_t)object)) return object;
-    mpgc_set_uncollectable((uintptr_t)object, true);
-    mpgc_lock();
-    GC_non_gc_bytes += GC_size(object);
-    mpgc_unlock();
-    return object;
-}
-
-void *GC_malloc_uncollectable(size_t bytes) { return keep(GC_malloc(bytes)); }
-
-void *GC_malloc_atomic_uncollectable(size_t bytes) { return keep(GC_malloc_atomic(bytes)); }
-
 // The kept object that the address points into.
 bool mpgc_find(uintptr_t address, uintptr_t *base, size_t *words)
 {
@@ -154,12 +140,30 @@ bool mpgc_find(uintptr_t address, uintptr_t *base, size_t *words)
     return status == MPHEAP_OK;
 }
 
-// For figures. The core needn't be asked of a small one, since the page tells: it has objects of one size.
-static size_t words_at(uint64_t base)
+// The words of an object, by its base. The core needn't be asked of a small one, nor the lock be had, since the page tells: it has objects of one
+// size, and no others while this one is kept.
+UNSEEN size_t mpgc_words_of(uintptr_t base)
 {
-    size_t granules = mpgc_is_inside(base) ? mpgc.granules[mpgc_page_of(base)] : 0;
-    return granules != 0 ? granules * (GRANULE / WORD) : GC_size((void *)base) / WORD;
+    uintptr_t found;
+    size_t words, granules = mpgc_is_inside(base) ? mpgc.granules[mpgc_page_of(base)] : 0;
+    if (granules != 0) return granules * (GRANULE / WORD);
+    return mpgc_find(base, &found, &words) ? words : 0;
 }
+
+// What the program's GC_oom_fn answered lies outside of the heap, and is no object of it.
+static void *keep(void *object)
+{
+    if (!mpgc_is_inside((uintptr_t)object)) return object;
+    mpgc_set_uncollectable((uintptr_t)object, true);
+    mpgc_lock();
+    GC_non_gc_bytes += mpgc_words_of((uintptr_t)object) * WORD;
+    mpgc_unlock();
+    return object;
+}
+
+void *GC_malloc_uncollectable(size_t bytes) { return keep(GC_malloc(bytes)); }
+
+void *GC_malloc_atomic_uncollectable(size_t bytes) { return keep(GC_malloc_atomic(bytes)); }
 
 // Freed last: from then on a signal's handler may be given what lies there, and what is known of it is of the new object. Where the page has
 // no object of which more is known, nothing is to be forgotten.
@@ -168,7 +172,7 @@ __attribute__((noinline)) static void free_by_core(uint64_t base)
     mpgc_enter();
     mpgc_lock();
     if (mpgc_is_in_run(base)) mpgc_stop("GC_free of what was freed before");
-    size_t words = words_at(base);
+    size_t words = mpgc_words_of(base);
     if (mpgc_is_inside(base) && mpgc.has_more[mpgc_page_of(base)]) {
         mpgc_forget_finalizer(base);
         mpgc_forget_described(base);

@@ -1,7 +1,7 @@
 // What the audited files ask of the others, and rely on in nothing: any answer will do; and the figures. Here a struct of numbers and
 // functions are declared, and nothing is defined, which tests/gc.sh looks at: so nothing here changes what an audited file means.
 //
-// Besides they ask GC_get_abort_func and, for figures, GC_size; read GC_on_heap_resize; write GC_gc_no and GC_non_gc_bytes. tests/gc.sh has the list.
+// Besides they ask GC_get_abort_func; read GC_on_heap_resize; write GC_gc_no and GC_non_gc_bytes. tests/gc.sh has the list.
 
 // Figures, which everybody may write: whatever they say, no object is lost.
 struct figures {

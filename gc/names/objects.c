@@ -10,12 +10,7 @@ void *GC_base(void *address)
 
 int GC_is_heap_ptr(const void *address) { return (uintptr_t)address - FIRST < mpgc_pages() * PAGE; }
 
-size_t GC_size(const void *object)
-{
-    uintptr_t base;
-    size_t words;
-    return mpgc_find((uintptr_t)object, &base, &words) ? words * WORD : 0;
-}
+size_t GC_size(const void *object) { return mpgc_words_of((uintptr_t)object) * WORD; }
 
 size_t GC_get_size_map_at(int bytes)
 {

@@ -25,14 +25,14 @@ int GC_is_tmp_root(const void *address)
     return 0;
 }
 
-// All objects that are kept. The caller has the lock, and the function makes no request.
+// All objects that are kept and were given out. The caller has the lock, and the function makes no request.
 void GC_enumerate_reachable_objects_inner(void (*tell)(void *object, size_t bytes, void *data), void *data)
 {
     uintptr_t base, end = FIRST + mpgc_pages() * PAGE;
     size_t words;
     for (uintptr_t at = FIRST; at < end;) {
         bool is_found = mpgc_find(at, &base, &words);
-        if (is_found) tell((void *)base, words * WORD, data);
+        if (is_found && !mpgc_is_in_run(base)) tell((void *)base, words * WORD, data);
         at = is_found ? base + words * WORD : at + GRANULE;
     }
 }

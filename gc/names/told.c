@@ -53,6 +53,7 @@ static void tell_events(const GC_EventType *events, size_t count)
 
 void mpgc_tell_start(void)
 {
+    mpgc_age_free_pages();
     mpgc_ask_toggled();
     static const GC_EventType first[] = { GC_EVENT_START, GC_EVENT_MARK_START };
     tell_events(first, 2);
@@ -67,7 +68,6 @@ bool mpgc_holds_threads_back(void) { return tell_start && (GC_gc_no == 0 || mpgc
 void mpgc_tell_end(void)
 {
     static const GC_EventType last[] = { GC_EVENT_MARK_END, GC_EVENT_RECLAIM_START, GC_EVENT_RECLAIM_END, GC_EVENT_END };
-    mpgc_age_free_pages();
     mpgc_call_disclaimed();
     tell_events(last, 4);
 }

@@ -1,14 +1,14 @@
-// Free pages whose memory is given back to the system. A page goes that was free at the end of so many collections, one after the other,
-// which GC_UNMAP_THRESHOLD says, as with bdwgc; or each free one, where the program asked for a collection and for that. They are looked
-// at behind a collection's end, before others are swept, so that what is free then wasn't used since the last one; and they go a few at a
-// time, between requests.
+// Free pages whose memory is given back to the system. A page goes that was free when so many collections began, one after the other, as
+// GC_UNMAP_THRESHOLD says; or each free one, where the program asked for a collection and for that. What is free when a collection begins wasn't
+// used since the last one, or the program has freed it: behind a collection's end pages are free that will be used at once. They go a few at
+// a time, between requests.
 #include "awaited.h"
 #include <stdlib.h>
 #include <string.h>
 
 enum { USUAL = 6, LOOKED_AT = 4096, BATCH = 256, LEAST = 256 };
 
-static uint8_t *ages;       // of each page: at the end of so many collections it was free
+static uint8_t *ages;       // of each page: when so many collections began, at most the threshold, it was free
 static size_t looked;       // so many pages were looked at
 static size_t next;         // from here on they may go
 static unsigned threshold = USUAL;
@@ -16,7 +16,7 @@ static bool is_forced;
 
 static void age(size_t page)
 {
-    if (ages[page] <= threshold) ages[page]++;
+    if (ages[page] < threshold) ages[page]++;
 }
 
 // Of those that were ever used a megabyte is free, and a fifth.
@@ -26,7 +26,7 @@ static bool are_many(void)
     return mpgc_ever_used_pages() >= used + used / 4 + LEAST;
 }
 
-// A collection has ended. Where few pages are free nothing is looked at, since the next collection may come soon.
+// A collection begins. Where few pages are free nothing is looked at, since the next collection may come soon.
 void mpgc_age_free_pages(void)
 {
     size_t page = 0, first, many = 0;
@@ -44,7 +44,7 @@ void mpgc_age_free_pages(void)
 static bool is_due(size_t page)
 {
     enum page_kind kind = mpgc_kind_at(FIRST + page * PAGE);
-    return ages[page] > threshold && (kind == ORDINARY || kind == POINTER_FREE);
+    return ages[page] >= threshold && (kind == ORDINARY || kind == POINTER_FREE);
 }
 
 // Answers whether there may be more.

@@ -3,6 +3,7 @@
 #define _GNU_SOURCE
 #include <stdbool.h>
 #include <stdint.h>
+#include <sys/resource.h>
 #include <unistd.h>
 #include "gc.h"
 #include "check.h"
@@ -109,7 +110,7 @@ static void at_once(void)
 #endif
 }
 
-/* A page goes that was free at the end of seven collections, and not before. */
+/* A page goes that was free in seven collections, and not before. */
 static void after_some(void)
 {
     make_all();
@@ -134,6 +135,26 @@ static void by_force(void)
     for (int k = 0; k < 3; k++) GC_gcollect();
     CHECK(GC_get_unmapped_bytes() > 10 * MEGABYTE && are_there());
     GC_set_force_unmap_on_gcollect(0);
+}
+
+/* Pages that come free in each collection and are used before the next one stay: else each of them would fault. */
+static long faults(void)
+{
+    struct rusage all;
+    getrusage(RUSAGE_SELF, &all);
+    return all.ru_minflt;
+}
+static void make_many(int count)
+{
+    for (int k = 0; k < count; k++) kept[k % 100] = GC_malloc(5000);
+}
+static void used_again(void)
+{
+    make_many(10000);
+    GC_word collections = GC_get_gc_no();
+    long before = faults();
+    make_many(40000);
+    CHECK(GC_get_gc_no() >= collections + 20 && faults() < before + 4000);
 }
 
 #ifndef OTHER
@@ -195,6 +216,7 @@ static void start(void)
 IN_CHILD(at_once)
 IN_CHILD(after_some)
 IN_CHILD(by_force)
+IN_CHILD(used_again)
 #ifndef OTHER
 IN_CHILD(between_requests)
 #endif
@@ -204,6 +226,7 @@ int main(void)
     CHECK(status_of(at_once_in_child) == 0);
     CHECK(status_of(after_some_in_child) == 0);
     CHECK(status_of(by_force_in_child) == 0);
+    CHECK(status_of(used_again_in_child) == 0);
 #ifndef OTHER
     CHECK(status_of(between_requests_in_child) == 0);
     CHECK(status_of(never) == 0);

@@ -38,7 +38,7 @@ done
 nm --defined-only "$room"/others/*.o | awk 'NF == 3 && $2 ~ /[TDBRC]/ {print $3}' | sort -u >"$room/theirs"
 # (linked.c means the C library's functions of threads, which libmpgc.a leaves alone.)
 is "what the audited files ask" \
-    "GC_gc_no GC_get_abort_func GC_non_gc_bytes GC_on_heap_resize GC_size pthread_create pthread_detach pthread_exit pthread_join" \
+    "GC_gc_no GC_get_abort_func GC_non_gc_bytes GC_on_heap_resize pthread_create pthread_detach pthread_exit pthread_join" \
     "$(nm -u "$room"/audited/*.o | awk 'NF == 2 {print $2}' | sort -u | comm -12 - "$room/theirs" | comm -23 - "$room/asked" | paste -sd ' ')"
 # answered LINE: whether the compiler takes the line in a file of names.
 answered() {
