@@ -68,6 +68,19 @@ pub page_found : (row : List Bool) (low : ℕ) (found : Option ℕ) → HasNoRun
 page_found row low None below empty = no_page row low below empty
 page_found row low (Some i) below first = first_page row low i below first
 
+no_start : (row : List Bool) (n low : ℕ) → 0 < n → HasNoRunBelow row n low → HasNoFreeRunFrom row low n → HasNoFreeRun row n
+no_start row n low some below none i run = ⊎_elim (λ before. below.none some i before run) (λ from. none i from run) (cases_lt i low)
+
+first_start : (row : List Bool) (n low i : ℕ) → 0 < n → HasNoRunBelow row n low → IsFirstFreeRunFrom row low i n → IsFirstFreeRun row i n
+first_start row n low i some below first = record {
+  run = first.run;
+  lowest = λ j lt run. ⊎_elim (λ before. below.none some j before run) (λ from. first.lowest j from lt run) (cases_lt j low);
+}
+
+pub start_found : (row : List Bool) (n low : ℕ) (found : Option ℕ) → 0 < n → HasNoRunBelow row n low → MatchOption found (HasNoFreeRunFrom row low n) (λ i. IsFirstFreeRunFrom row low i n) → MatchOption found (HasNoFreeRun row n) (λ i. IsFirstFreeRun row i n)
+start_found row n low None some below none = no_start row n low some below none
+start_found row n low (Some i) some below first = first_start row n low i some below first
+
 pub ruleset searching = (search_start, search_more, search_found, search_end, no_pages)
 
 pub ends_inside : (row : List Bool) (first end : ℕ) → get_or row first false ≡ true → IsFirstClearFrom row first end → IsRunEnd row first end

@@ -43,23 +43,31 @@ impl Model for PagePool {
     ghost invariant = { λ p. (length p.free ≤ MOST_PAGES) × AreHints p.free p.hints };
 }
 
-// The lowest place of n free pages in a row, of which none begin below `low`. Where n of them begin, or 64 of more, it looks for the first page that
-// is taken, and goes on from there if the run is too short: both are found by whole words of the row.
+// The lowest place of n free pages in a row, of which none begin below `low`. Words of the row tell at once where up to 64 of them begin.
 #[tactic(auto, using(crate::proofs::Runs::searching))]
 fn find_run(row: &BitRow, low: usize, n: usize) -> Option<usize>
     requires small { length row.now ≤ MOST_PAGES }
     requires none { HasNoRunBelow row.now n low }
     ensures { MatchOption result (HasNoFreeRun row.now n) (λ i. IsFirstFreeRun row.now i n) }
 {
-    if n == 0 {
-        return Some(0);
+    match n {
+        0 => Some(0),
+        1 => find_page(row, low),
+        2..=64 => next_start(row, low, n as u32),
+        _ => find_long(row, low, n),
     }
-    if n == 1 {
-        return find_page(row, low);
-    }
-    let most = n.min(64) as u32;
+}
+
+// The same of more than 64: where as many begin it looks for the first page that is taken, and goes on from there if the run is too short.
+#[tactic(auto, using(crate::proofs::Runs::searching))]
+fn find_long(row: &BitRow, low: usize, n: usize) -> Option<usize>
+    requires small { length row.now ≤ MOST_PAGES }
+    requires long { 64 < n }
+    requires none { HasNoRunBelow row.now n low }
+    ensures { MatchOption result (HasNoFreeRun row.now n) (λ i. IsFirstFreeRun row.now i n) }
+{
     let mut from = low;
-    while let Some(first) = next_start(row, from, most) {
+    while let Some(first) = next_start(row, from, 64) {
         let end = run_end(row, first);
         if end - first >= n {
             return Some(first);

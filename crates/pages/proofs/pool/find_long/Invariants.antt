@@ -1,6 +1,6 @@
 use Rattle.std.proofs.Common.{◌-◌, length}
 use Rattle.pages.proofs.Runs.{IsSearched}
-use Rattle.pages.proofs.pool.find_run.Given as goal
+use Rattle.pages.proofs.pool.find_long.Given as goal
 
 abbrev pub invariant-loop-first : goal.invariant-loop-first
 invariant-loop-first l = IsSearched l.row l.n l.from
