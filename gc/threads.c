@@ -126,19 +126,25 @@ static void be_threaded(void)
     mpgc_will_be_threaded();
 }
 
-// A thread that nobody told of.
+// A thread that nobody told of. No handler of the program runs on it before it is known: that would call in as another thread, or be given
+// what no root names.
 void mpgc_know_this(const struct GC_stack_base *base)
 {
-    struct thread *self = new_record();
+    sigset_t old;
     if (!mpgc.is_threaded) mpgc_stop("a thread that nobody told of calls in: call GC_allow_register_threads first");
-    self->is_late = has_said_goodbye;
-    find_this(self, base);
-    self->id = pthread_self();
-    mpgc_lock();
-    link_record(self);
-    self->is_detached = true;
-    mpgc_unlock();
-    (void)run_as(self);
+    mpgc_block_signals(&old);
+    if (!mpgc_self) {
+        struct thread *self = new_record();
+        self->is_late = has_said_goodbye;
+        find_this(self, base);
+        self->id = pthread_self();
+        mpgc_lock();
+        link_record(self);
+        self->is_detached = true;
+        mpgc_unlock();
+        (void)run_as(self);
+    }
+    mpgc_restore_signals(&old);
 }
 
 static void *begin(void *record)
@@ -202,9 +208,12 @@ static void unlink_gone(void)
     }
 }
 
-static void forget(struct thread *self)
+// No stop waits for this thread any more, nor for a handler of the program, which would be given what its runs have while the core frees that.
+// So from here on all signals but faults are blocked, as they were not before.
+static void forget(struct thread *self, sigset_t *old)
 {
     mpgc_lock();
+    mpgc_block_signals(old);
     unlink_gone();
     mpgc_empty_runs(self);
     self->state = ENDED;
@@ -229,10 +238,7 @@ static void on_goodbye(void *record)
         return;
     }
     sigset_t old;
-    mpgc_lock();
-    mpgc_block_signals(&old);  // since no stop waits for it any more, nor for a handler of the program
-    forget(self);
-    mpgc_unlock();
+    forget(self, &old);
     mpgc_drop_keys();
 }
 
@@ -307,10 +313,12 @@ int GC_register_my_thread(const struct GC_stack_base *base)
 int GC_unregister_my_thread(void)
 {
     struct thread *self = mpgc_self;
+    sigset_t old;
     if (!self) return GC_SUCCESS;
     (void)mpgc_set_own_key(key, NULL);
     self->is_detached = true;
-    forget(self);
+    forget(self, &old);
+    mpgc_restore_signals(&old);
     return GC_SUCCESS;
 }
 

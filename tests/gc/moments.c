@@ -40,6 +40,14 @@ static void handle(void)
 
 static void on_stop(const char *sentence) { _exit(strstr(sentence, "a call was made under another one") ? IS_STOPPED : SAYS_SOMETHING_ELSE); }
 
+/* As a signal, which may be blocked: its handler comes when it isn't. Else at once. */
+static int is_signal;
+static void on_signal(int number)
+{
+    (void)number;
+    handle();
+}
+
 static unsigned long moments, went_on, were_stopped, in_a_row, passed_by;
 
 /* In the middle of a call of the heap each handler is stopped: behind so many moments of it only some are tried, others in each run of this
@@ -62,7 +70,10 @@ static void on_trap(int number, siginfo_t *info, void *context)
     pid_t child = (pid_t)syscall(SYS_fork);
     if (child == 0) {
         ((ucontext_t *)context)->uc_mcontext.gregs[REG_EFL] &= ~(greg_t)TRAP_FLAG;
-        handle();
+        if (is_signal)
+            raise(SIGUSR1);
+        else
+            handle();
         return;
     }
     waitpid(child, &status, 0);
@@ -100,14 +111,17 @@ static void look_at(uint64_t *object)
     *object = 0;
 }
 
+static void trap(void) { __asm__ volatile("pushfq; orq %0, (%%rsp); popfq" : : "i"(TRAP_FLAG) : "memory", "cc"); }
+static void trap_no_more(void) { __asm__ volatile("pushfq; andq %0, (%%rsp); popfq" : : "i"(~TRAP_FLAG) : "memory", "cc"); }
+
 /* Each moment of the request. Answers whether all went on, or were stopped. */
 static int walk(uint64_t *(*request)(void))
 {
     pid_t self = getpid();
     moments = went_on = were_stopped = in_a_row = 0;
-    __asm__ volatile("pushfq; orq %0, (%%rsp); popfq" : : "i"(TRAP_FLAG) : "memory", "cc");
+    trap();
     uint64_t *object = request();
-    __asm__ volatile("pushfq; andq %0, (%%rsp); popfq" : : "i"(~TRAP_FLAG) : "memory", "cc");
+    trap_no_more();
     if (getpid() != self) {
         look_at(object);
         _exit(0);
@@ -165,6 +179,29 @@ static void others(void)
     CHECK(walk(ask) && were_stopped > 0);
 }
 
+/* The thread goes, with an object that it was given and didn't give out, and comes again. */
+static uint64_t *go_and_come(void)
+{
+    struct GC_stack_base base;
+    trap_no_more();
+    GC_get_stack_base(&base);
+    trap();
+    GC_unregister_my_thread();
+    trap_no_more();
+    GC_register_my_thread(&base);
+    return GC_malloc(size);
+}
+static void go(void)
+{
+    signal(SIGUSR1, on_signal);
+    is_signal = 1;
+    GC_allow_register_threads();
+    (void)go_and_come();
+    size = 1000;
+    CHECK(walk(go_and_come));
+    is_signal = 0;
+}
+
 int main(void)
 {
     struct sigaction action = { .sa_sigaction = on_trap, .sa_flags = SA_SIGINFO };
@@ -180,5 +217,6 @@ int main(void)
     collects = 0;
     round_and_round();
     stay();
+    go();
     return check_ends();
 }

@@ -4,8 +4,11 @@
 #define GC_NO_THREAD_REDIRECTS
 #include <dlfcn.h>
 #include <pthread.h>
+#include <sched.h>
 #include <semaphore.h>
+#include <signal.h>
 #include <stdint.h>
+#include <time.h>
 #include "gc.h"
 #include "check.h"
 
@@ -63,6 +66,52 @@ static void registering(void)
     others_create(&thread, NULL, unknown, NULL);
     sem_wait(&at_rest);
     collect();
+    sem_post(&may_go);
+    pthread_join(thread, NULL);
+    collect();
+}
+
+/* A signal comes to a thread that waits to be registered, and its handler makes a request. */
+static _Atomic int is_coming, was_handled;
+static struct node *volatile of_handler;
+static void make_one(int number)
+{
+    (void)number;
+    of_handler = list_of(11, 1);
+    was_handled = 1;
+}
+static void *come(void *data)
+{
+    struct GC_stack_base base;
+    GC_get_stack_base(&base);
+    is_coming = 1;
+    CHECK(GC_register_my_thread(&base) == GC_SUCCESS);
+    while (!was_handled) sched_yield();
+    struct node *list = list_of(13, 500);
+    sem_post(&at_rest);
+    sem_wait(&may_go);
+    CHECK(is_list(list, 13, 500));
+    CHECK(GC_unregister_my_thread() == GC_SUCCESS);
+    return data;
+}
+static void *make_and_signal(void *thread)
+{
+    static const struct timespec moment = { 0, 50000000 };
+    others_create(thread, NULL, come, NULL);
+    while (!is_coming) sched_yield();
+    nanosleep(&moment, NULL);
+    pthread_kill(*(pthread_t *)thread, SIGUSR1);
+    nanosleep(&moment, NULL);
+    return thread;
+}
+static void handling(void)
+{
+    pthread_t thread;
+    signal(SIGUSR1, make_one);
+    CHECK(GC_call_with_alloc_lock(make_and_signal, &thread) == &thread);
+    sem_wait(&at_rest);
+    collect();
+    CHECK(is_list(of_handler, 11, 1));
     sem_post(&may_go);
     pthread_join(thread, NULL);
     collect();
@@ -253,6 +302,7 @@ int main(void)
     if (getenv("INCREMENTAL")) GC_enable_incremental();
     GC_allow_register_threads();
     registering();
+    handling();
     do_blocking();
     events();
 #ifndef OTHER
