@@ -19,6 +19,14 @@ const sigset_t *mpgc_without_faults(const sigset_t *signals, sigset_t *room)
     return room;
 }
 
+// Who waits for a signal would take it from its handler: so these are waited for, but that by which threads are stopped, once there are some.
+const sigset_t *mpgc_without_stops(const sigset_t *signals, sigset_t *room)
+{
+    *room = *signals;
+    if (mpgc_is_threaded()) sigdelset(room, SIGPWR);
+    return room;
+}
+
 SHOWN int sigprocmask(int how, const sigset_t *restrict next, sigset_t *restrict old)
 {
     sigset_t room;

@@ -70,5 +70,6 @@ HIDDEN void mpgc_forget_finalizer(uintptr_t base);
 
 // ../kernel/masks.c and ../kernel/handlers.c
 HIDDEN const sigset_t *mpgc_without_faults(const sigset_t *signals, sigset_t *room);
+HIDDEN const sigset_t *mpgc_without_stops(const sigset_t *signals, sigset_t *room);
 HIDDEN void mpgc_barrier_stands(const struct sigaction *old);
 HIDDEN void mpgc_pass_on(int number, siginfo_t *info, void *context);
