@@ -56,7 +56,12 @@ void mpgc_skip_sweeping(void)
     if (next == SWEEP) next = START;
 }
 
-enum piece mpgc_first_piece(void) { return next; }
+// What may go, or is to stay, of toggle references is asked once more before the stop in which a cycle ends: as late as other threads run.
+enum piece mpgc_first_piece(void)
+{
+    if (next == END) mpgc_ask_toggled();
+    return next;
+}
 
 // The step is over, and the next one begins with this piece.
 static enum piece stop_before(enum piece piece)
@@ -171,9 +176,11 @@ static enum piece piece_after(enum piece piece, uint64_t did, uint64_t *left)
     }
 }
 
-// What follows on a piece in the same step. Beside the program's threads with the roots another step begins.
+// What follows on a piece in the same step. Beside the program's threads with the roots another step begins, and where the program has to be
+// asked before it, with the end.
 enum piece mpgc_piece_after(enum piece piece, uint64_t did, uint64_t *left)
 {
     enum piece after = piece_after(piece, did, left);
-    return reads_roots(after) && mpgc_is_beside() ? stop_before(after) : after;
+    bool begins_anew = (reads_roots(after) && mpgc_is_beside()) || (after == END && mpgc_has_toggled());
+    return begins_anew ? stop_before(after) : after;
 }

@@ -1,5 +1,6 @@
 // Toggle references: before a collection a function of the program says of each of these objects whether it is to stay, may go, or isn't
-// to be asked for any more. Those that stay are marked at the cycle's end.
+// to be asked for any more. Those that stay are marked at the cycle's end. Of a cycle in small steps it is asked when that begins and once more
+// before its end, since an object may have become one that stays meanwhile.
 #include "awaited.h"
 #include "locked.h"
 #include <stdlib.h>
@@ -10,7 +11,7 @@ static GC_toggleref_func ask;
 
 bool mpgc_has_toggled(void) { return count > 0; }
 
-// A collection begins, and other threads still run.
+// A collection begins, or ends, and other threads still run.
 void mpgc_ask_toggled(void)
 {
     size_t left = 0;

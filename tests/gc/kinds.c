@@ -281,6 +281,49 @@ static NOINLINE void toggles(void)
     forget_all();
 }
 
+/* Those that might have gone are to stay, once a cycle marks that hasn't come to them yet, and nothing else names them. */
+enum { DEEP = 20, FAR = 200000 };
+struct far { struct far *next; uint64_t *object; };
+static struct far *far;
+static int stays;
+static GC_ToggleRefStatus ask_late(void *object)
+{
+    (void)object;
+    return stays ? GC_TOGGLE_REF_STRONG : GC_TOGGLE_REF_WEAK;
+}
+static NOINLINE void make_far(void)
+{
+    for (int k = 0; k < FAR; k++) {
+        struct far *made = GC_malloc(sizeof *made);
+        made->object = k < DEEP ? named(k) : NULL;
+        if (made->object) CHECK(GC_toggleref_add(made->object, 0) == GC_SUCCESS);
+        made->next = far;
+        far = made;
+    }
+}
+static NOINLINE void let_stay(void)
+{
+    for (struct far *at = far; at; at = at->next) at->object = NULL;
+    stays = 1;
+}
+static NOINLINE void toggles_late(void)
+{
+    GC_set_toggleref_func(ask_late);
+    make_far();
+    collect();
+    GC_start_incremental_collection();
+    let_stay();
+    clear_stack();
+    while (GC_collect_a_little()) continue;
+    collect();
+    CHECK(count_gone(0, DEEP) == 0);
+    stays = 0;
+    collect();
+    CHECK(count_gone(0, DEEP) >= DEEP - 3);
+    far = NULL;
+    forget_all();
+}
+
 /* Objects that are asked before they go: each is let go the second time, and what it leads to is there. */
 static int asked, let_go, wrong;
 struct asked { struct asked *to; uint64_t times, number; };
@@ -470,6 +513,7 @@ int main(void)
 #endif
     per_object();
     toggles();
+    toggles_late();
     disclaims();
     finalized_ones();
     other_roots();
