@@ -5,8 +5,9 @@
 // program frees by, and says its roots and links by. So all that is left to them is what a program may do at any time, and the functions
 // below, of which each says why anyone may call it at any time. (Those that go on to the core stop the program if that is in the middle of
 // a call, as a signal's handler might be.) So a fault of theirs is a wrong figure, pace or answer, a finalizer that comes too early, late
-// or never, a system call that answers EFAULT, or a program that is stopped, or hangs. What nothing hinders is what any C may do: write at
-// a wrong address, or have the kernel do it; or answer a request for an object that is read by one that isn't.
+// or never, a toggle reference that doesn't keep what it should, a system call that answers EFAULT, or a program that is stopped, or hangs.
+// What nothing hinders is what any C may do: write at a wrong address, or have the kernel do it; or answer a request for an object that is
+// read by one that isn't.
 // Counted under the rest.
 #ifndef MPGC_FRONT_H
 #define MPGC_FRONT_H
