@@ -193,11 +193,15 @@ static uint64_t *go_and_come(void)
 }
 static void go(void)
 {
+    struct GC_stack_base base;
+    GC_get_stack_base(&base);
     signal(SIGUSR1, on_signal);
     is_signal = 1;
     GC_allow_register_threads();
-    (void)go_and_come();
+    GC_unregister_my_thread(); /* what it has of other sizes goes */
+    GC_register_my_thread(&base);
     size = 1000;
+    old = ask();
     CHECK(walk(go_and_come));
     is_signal = 0;
 }
