@@ -409,19 +409,26 @@ static uint64_t *wanted;
 static int found, alike;
 static void look(void *object, size_t bytes, void *data)
 {
-    found += object == (void *)wanted && bytes >= 700 && data == &found;
-    alike += bytes >= 700 && bytes < 800;
+    found += wanted && object == (void *)wanted && bytes >= 700 && data == &found;
+    alike += bytes >= 700 && bytes < 1000;
+}
+static NOINLINE void walk(void)
+{
+    found = alike = 0;
+    GC_gcollect();
+    GC_alloc_lock();
+    GC_enumerate_reachable_objects_inner(look, &found);
+    GC_alloc_unlock();
 }
 static NOINLINE void walks(void)
 {
     int length = 0;
     void *list, *type = &length;
+    walk();
+    int before = alike;
     wanted = GC_malloc(700);
-    GC_gcollect();
-    GC_alloc_lock();
-    GC_enumerate_reachable_objects_inner(look, &found);
-    GC_alloc_unlock();
-    CHECK(found == 1 && alike == 1);
+    walk();
+    CHECK(found == 1 && alike == before + 1);
     GC_generic_malloc_many(32, 1, &list);
     for (; list && length < 10000; list = *(void **)list) length++;
     CHECK(length >= 1 && length < 10000);
