@@ -3,6 +3,7 @@
 // is different.
 #include "../front.h"
 #include <errno.h>
+#include <pthread.h>
 #include <sys/syscall.h>
 #include <unistd.h>
 
@@ -43,8 +44,13 @@ SHOWN int pthread_sigmask(int how, const sigset_t *restrict next, sigset_t *rest
     return answer;
 }
 
+// A thread may be cancelled in it, as in the C library's, which does it so too.
 SHOWN int sigsuspend(const sigset_t *signals)
 {
     sigset_t room;
-    return (int)syscall(SYS_rt_sigsuspend, mpgc_without_faults(signals, &room), BYTES);
+    int type;
+    (void)pthread_setcanceltype(PTHREAD_CANCEL_ASYNCHRONOUS, &type);
+    long answer = syscall(SYS_rt_sigsuspend, mpgc_without_faults(signals, &room), BYTES);
+    (void)pthread_setcanceltype(type, &(int){ 0 });
+    return (int)answer;
 }

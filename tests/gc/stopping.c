@@ -650,6 +650,28 @@ static int takes_signals(void)
     return pthread_join(thread, &answer) != 0 || answer;
 }
 
+/* A thread that waits for a handler is cancelled. */
+static void *wait_for_handlers(void *data)
+{
+    sigset_t none;
+    sigemptyset(&none);
+    for (stage = 1;;) sigsuspend(&none);
+    return data;
+}
+static int cancelled_while_it_waits(void)
+{
+    pthread_t thread;
+    void *answer = NULL;
+    alarm(60);
+    stage = 0;
+    pthread_create(&thread, NULL, wait_for_handlers, NULL);
+    while (stage == 0) sched_yield();
+    rest(0.02);
+    GC_gcollect();
+    pthread_cancel(thread);
+    return pthread_join(thread, &answer) != 0 || answer != PTHREAD_CANCELED;
+}
+
 static pid_t begin_in_child(int (*body)(void))
 {
     pid_t child = fork();
@@ -678,6 +700,7 @@ int main(void)
     CHECK(status_of(writes_to_one_word) == 0);
     CHECK(status_of(protects_itself) == 0);
     CHECK(status_of(takes_signals) == 0);
+    CHECK(status_of(cancelled_while_it_waits) == 0);
     cancelled();
     destroyed_late();
     CHECK(status_of(first_is_destroyed_late) == 0);
