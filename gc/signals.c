@@ -15,6 +15,17 @@
 #include <ucontext.h>
 #include <unistd.h>
 
+// Every signal, and the one by which the C library cancels threads: else a thread that has the lock, in a handler that came in a call in which it
+// may be cancelled, would end with it.
+static sigset_t every_signal(void)
+{
+    enum { CANCEL = 32 };
+    sigset_t all;
+    sigfillset(&all);
+    all.__val[0] |= (uint64_t)1 << (CANCEL - 1);
+    return all;
+}
+
 // By the kernel's own call: those of the C library are taken for the program (kernel/masks.c), and the collector's calls don't use them.
 static void set_signals(const sigset_t *blocked, sigset_t *old)
 {
@@ -25,8 +36,7 @@ static void set_signals(const sigset_t *blocked, sigset_t *old)
 void mpgc_block_signals(sigset_t *old)
 {
     static const int of_faults[] = { SIGSEGV, SIGBUS, SIGFPE, SIGILL, SIGTRAP, SIGABRT };
-    sigset_t all;
-    sigfillset(&all);
+    sigset_t all = every_signal();
     for (size_t k = 0; k < sizeof of_faults / sizeof *of_faults; k++) sigdelset(&all, of_faults[k]);
     set_signals(&all, old);
     sigdelset(old, SIGSEGV);
@@ -90,8 +100,7 @@ static void on_fault(int number, siginfo_t *info, void *context)
 // have set its own handler.
 void mpgc_take_faults(void)
 {
-    struct sigaction ours = { .sa_sigaction = on_fault, .sa_flags = SA_SIGINFO | SA_ONSTACK | SA_RESTART }, old;
-    sigfillset(&ours.sa_mask);
+    struct sigaction ours = { .sa_sigaction = on_fault, .sa_flags = SA_SIGINFO | SA_ONSTACK | SA_RESTART, .sa_mask = every_signal() }, old;
     sigdelset(&ours.sa_mask, SIGPWR);
     if (__sigaction(SIGSEGV, &ours, &old) != 0) mpgc_stop("the kernel refused a handler of faults");
     bool is_ours = (old.sa_flags & SA_SIGINFO) && old.sa_sigaction == on_fault;

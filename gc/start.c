@@ -28,12 +28,8 @@ static size_t open_core(void)
     return pages >= LEAST ? pages : 0;
 }
 
-void mpgc_open(void)
+static void open_heap(void)
 {
-    if (is_open) {
-        mpgc_know_this(NULL);
-        return;
-    }
     is_open = true;
     mpgc_know_first();
     (void)mpgc_now();  // it finds the clock of the C library, which waits for a dlopen; and that may wait for the lock, but never here
@@ -42,7 +38,21 @@ void mpgc_open(void)
     if (mpheap_attach(&mpgc.heap, &mpgc.slot) != MPHEAP_OK) mpgc_stop("a new heap has no slot");
     if (mpgc_figures.limit > mpgc.all) mpgc_figures.limit = mpgc.all;
     mpgc_make_spare();
-    mpgc_read_environment();
+}
+
+// No handler of the program runs before the heap is there. One that came just before has opened it.
+void mpgc_open(void)
+{
+    sigset_t old;
+    if (is_open) {
+        mpgc_know_this(NULL);
+        return;
+    }
+    mpgc_block_signals(&old);
+    bool was_opened = is_open;
+    if (!was_opened) open_heap();
+    mpgc_restore_signals(&old);
+    if (!was_opened) mpgc_read_environment();
 }
 
 void GC_init(void) { mpgc_enter(); }

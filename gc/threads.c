@@ -51,12 +51,13 @@ static struct thread *new_record(void)
     return record;
 }
 
-struct thread *mpgc_record_of(pthread_t id)
+static struct thread *with_id(struct thread *one, pthread_t id)
 {
-    struct thread *one = mpgc.threads;
     while (one && !pthread_equal(one->id, id)) one = one->next;
     return one;
 }
+
+struct thread *mpgc_record_of(pthread_t id) { return with_id(mpgc.threads, id); }
 
 // ---- Coming ----
 
@@ -250,11 +251,13 @@ void GC_pthread_exit(void *answer)
     abort();
 }
 
-// The record stays until it is let go, though its thread may end, and may have told of itself.
+// The record stays until it is let go, though its thread may end, and may have told of itself. One that asked late has another record by then,
+// and is waited for by its first.
 static struct thread *hold(pthread_t id)
 {
     mpgc_lock();
-    struct thread *record = mpgc_record_of(id);
+    struct thread *record = with_id(mpgc.threads, id);
+    while (record && record->is_late) record = with_id(record->next, id);
     if (record) record->holders++;
     mpgc_unlock();
     return record;

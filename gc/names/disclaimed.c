@@ -47,15 +47,15 @@ void mpgc_find_disclaimed(void)
     mpgc_mark_all();
 }
 
-// The cycle has ended, other threads run, and the lock is held.
+// The cycle has ended, other threads run, and the lock is held. The function may make objects, and the table move.
 void mpgc_call_disclaimed(void)
 {
     for (size_t k = 0; k < count;) {
-        struct object *one = &all[k];
-        bool goes = one->is_asked && of_kind[one->kind](GC_REVEAL_POINTER(one->hidden)) == 0;
-        one->is_asked = false;
+        const struct object one = all[k];
+        bool goes = one.is_asked && of_kind[one.kind](GC_REVEAL_POINTER(one.hidden)) == 0;
+        all[k].is_asked = false;
         if (goes)
-            *one = all[--count];
+            all[k] = all[--count];
         else
             k++;
     }

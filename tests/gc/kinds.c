@@ -502,6 +502,33 @@ static NOINLINE void last_lists(void)
     CHECK(count_gone(0, length) >= length - 3);
     forget_all();
 }
+/* A function that is asked makes more of its kind, so that what is known of them is moved: each object is asked for once. */
+static int kind_of_makers;
+static unsigned char times_asked[MANY];
+static int make_more(void *object)
+{
+    const uint64_t *number = object;
+    if (*number == 0) return 0;
+    times_asked[*number - 1]++;
+    for (int k = 0; k < MANY; k++) GC_generic_malloc(sizeof *number, kind_of_makers);
+    return 0;
+}
+static NOINLINE void make_makers(void)
+{
+    for (uint64_t k = 1; k <= MANY; k++) *(uint64_t *)GC_generic_malloc(sizeof k, kind_of_makers) = k;
+}
+static NOINLINE void makers(void)
+{
+    int often = 0;
+    kind_of_makers = (int)GC_new_kind(GC_new_free_list(), 0, 0, 1);
+    GC_register_disclaim_proc(kind_of_makers, make_more, 0);
+    make_makers();
+    clear_stack();
+    collect();
+    collect();
+    for (int k = 0; k < MANY; k++) often += times_asked[k] > 1;
+    CHECK(often == 0);
+}
 #endif
 
 int main(void)
@@ -517,6 +544,7 @@ int main(void)
     lists_of_a_kind();
 #ifndef OTHER
     last_lists();
+    makers();
 #endif
     per_object();
     toggles();

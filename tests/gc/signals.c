@@ -1,7 +1,9 @@
 /* Signals that the program blocks, handles, waits for and sends, while a cycle marks: a write to a closed page is done in each case. */
 #define _GNU_SOURCE
+#include <dlfcn.h>
 #include <errno.h>
 #include <poll.h>
+#include <pthread.h>
 #include <signal.h>
 #include <sys/epoll.h>
 #include <sys/select.h>
@@ -206,10 +208,49 @@ static int frames_that_went_are_no_stacks(void)
     return sigaltstack(NULL, &seen) == 0 && (seen.ss_flags & SS_DISABLE) ? 0 : 4;
 }
 
+/* A handler makes a request in the middle of the first one, where the library asks where the stack ends. */
+static volatile sig_atomic_t is_armed;
+static void *volatile of_handler;
+static void ask(int number)
+{
+    (void)number;
+    of_handler = GC_malloc(16);
+}
+int pthread_getattr_np(pthread_t thread, pthread_attr_t *attributes)
+{
+    int (*next)(pthread_t, pthread_attr_t *);
+    void *found = dlsym(RTLD_NEXT, "pthread_getattr_np");
+    memcpy(&next, &found, sizeof next);
+    if (is_armed) {
+        is_armed = 0;
+        raise(SIGUSR1);
+    }
+    return next(thread, attributes);
+}
+static int asks_in_the_first_request(void)
+{
+    signal(SIGUSR1, ask);
+    is_armed = 1;
+    void *volatile first = GC_malloc(16);
+    return !first || is_armed || !of_handler || of_handler == first;
+}
+
+/* A thread that may be cancelled where it is has the lock in the handler of faults: the signal for that, 32, waits meanwhile. */
+static int faults_hold_off_cancelling(void)
+{
+    struct { void *handler; unsigned long flags; void *restorer; uint64_t mask; } now = { 0 };
+    begin();
+    long answer = syscall(SYS_rt_sigaction, SIGSEGV, NULL, &now, sizeof now.mask);
+    end();
+    return answer != 0 || !(now.mask >> 31 & 1);
+}
+
 int main(void)
 {
+    CHECK(status_of(asks_in_the_first_request) == 0);
     GC_INIT();
     GC_enable_incremental();
+    CHECK(status_of(faults_hold_off_cancelling) == 0);
     handle_with_all_blocked();
     CHECK(status_of(writes_while_all_are_blocked) == 0);
     CHECK(status_of(writes_in_a_handler) == 0);

@@ -9,6 +9,7 @@
 #include <signal.h>
 #include <stdint.h>
 #include <sys/mman.h>
+#include <sys/stat.h>
 #include <time.h>
 #include "gc.h"
 #include "check.h"
@@ -208,14 +209,16 @@ static int lets_others_have_the_lock(void)
 
 /* Threads whose last destructors of keys make requests, when no destructor of the library's will come any more, beside collections. */
 static pthread_key_t key;
+static _Atomic int rounds; /* of the destructors of one thread */
 static void come_again(void *data)
 {
     GC_malloc(16);
+    if (data == &rounds) rounds++;
     pthread_setspecific(key, data);
 }
 static void *set_key(void *data)
 {
-    pthread_setspecific(key, &key);
+    pthread_setspecific(key, data ? data : &key);
     return data;
 }
 static void destroyed_late(void)
@@ -288,7 +291,7 @@ static int ends_in_time(int (*body)(void))
     return 0;
 }
 
-/* What is known of a thread goes when it has ended, though it asked once more behind its last goodbye. */
+/* What is known of a thread goes when it has ended, though it asked once more behind its last goodbye: also if it is joined only then. */
 static long resident(void)
 {
     long all, here = 0;
@@ -297,24 +300,35 @@ static long resident(void)
     if (file) fclose(file);
     return here;
 }
-static _Atomic int begun;
+static int threads_here(void)
+{
+    struct stat all;
+    return stat("/proc/self/task", &all) == 0 ? (int)all.st_nlink - 2 : 0;
+}
 static void *set_key_alone(void *data)
 {
     pthread_detach(pthread_self());
-    begun++;
     return set_key(data);
+}
+static int is_joined_late(void)
+{
+    enum { ROUNDS = 4 }; /* PTHREAD_DESTRUCTOR_ITERATIONS */
+    pthread_t thread;
+    rounds = 0;
+    if (pthread_create(&thread, NULL, set_key, &rounds) != 0) return 0;
+    while (rounds < ROUNDS) sched_yield();
+    return pthread_join(thread, NULL) == 0;
 }
 static int leaves_nothing_behind(void)
 {
-    enum { MANY = 3000, MOST = 2500 }; /* threads, and pages: of each it was 3 and more */
+    enum { MANY = 3000, AT_ONCE = 20, MOST = 2500 }; /* threads, and pages: of each it was 3 and more */
     long before = 0;
     for (int k = 0; k < MANY; k++) {
         pthread_t thread;
         if (k == 100) before = resident();
-        if (pthread_create(&thread, NULL, k % 2 ? set_key : set_key_alone, NULL) != 0) return 1;
-        if (k % 2 && pthread_join(thread, NULL) != 0) return 1;
+        if (k % 2 ? !is_joined_late() : pthread_create(&thread, NULL, set_key_alone, NULL) != 0) return 1;
         if (k % 16 == 0) GC_gcollect();
-        while (begun <= k / 2 - 20) rest(0.0001);
+        while (threads_here() > AT_ONCE) rest(0.0001);
     }
     return resident() - before > MOST ? 2 : 0;
 }
