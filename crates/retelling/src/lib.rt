@@ -15,6 +15,7 @@ mod first;
 mod journal;
 mod loads;
 mod lookups;
+mod noting;
 mod objects;
 mod requests;
 mod texts;
