@@ -18,6 +18,7 @@ mod hint;
 pub mod laws;
 mod looking;
 mod replayer;
+mod replies;
 mod request;
 
 pub use hint::Hint;
