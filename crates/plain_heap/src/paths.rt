@@ -18,6 +18,14 @@ pub struct PathStep {
     pub base: u64,
 }
 
+/// What a path is looked for in: the roots, the words, and the objects that they point into.
+#[derive(Clone, Copy)]
+pub(crate) struct Graph<'a> {
+    pub(crate) roots: &'a Roots,
+    pub(crate) words: &'a [u64],
+    pub(crate) directory: &'a Directory,
+}
+
 // The place on the list of the object at one place of the row.
 pub(crate) fn place_of(order: &[usize], own: usize) -> Option<usize>
     ensures some { IfSome result (λ place. slice_get order.now place ≡ Some own) }
@@ -36,28 +44,27 @@ impl Listing {
     // before it, whose place is told.
     fn step_back(
         &self,
-        roots: &Roots,
-        words: &[u64],
-        directory: &Directory,
+        graph: Graph,
         place: usize,
         path: &mut Vec<PathStep>,
     ) -> Result<Option<usize>, AllocError>
         requires within { place < length self.now.order.items }
-        requires words { length words.now ≡ length directory.now.owners.items }
-        requires listed { IsListing directory.now.objects.items self.now }
-        requires discovered { IsDiscovered directory.now.origin (root_words_of roots.now) words.now directory.now.objects.items self.now.order.items }
-        ensures { IfOk result (λ before. StepsBack directory.now.origin roots.now words.now directory.now.objects.items self.now.order.items place path.old.items path.new.items before) }
+        requires words { length graph.words.now ≡ length graph.directory.now.owners.items }
+        requires listed { IsListing graph.directory.now.objects.items self.now }
+        requires discovered { IsDiscovered graph.directory.now.origin (root_words_of graph.roots.now) graph.words.now graph.directory.now.objects.items self.now.order.items }
+        ensures { IfOk result (λ before. StepsBack graph.directory.now.origin graph.roots.now graph.words.now graph.directory.now.objects.items self.now.order.items place path.old.items path.new.items before) }
     {
         let own = self.order[place];
-        let object = directory.object(own);
+        let object = graph.directory.object(own);
         let base = object.base;
-        if let Some(root) = roots.root_into(base, object.length) {
+        if let Some(root) = graph.roots.root_into(base, object.length) {
             let keeper = Keeper::ByRoot(root);
             path.push(PathStep { keeper, base })?;
             return Ok(None);
         }
         let earlier = &self.order[..place];
-        let Some((before, keeper)) = directory.link_into(earlier, words, own, object) else {
+        let Some((before, keeper)) = graph.directory.link_into(earlier, graph.words, own, object)
+        else {
             unreachable!();
         };
         path.push(PathStep { keeper, base })?;
@@ -67,22 +74,20 @@ impl Listing {
     // The path to the object at a place of the list, its last step first.
     pub(crate) fn walk_back(
         &self,
-        roots: &Roots,
-        words: &[u64],
-        directory: &Directory,
+        graph: Graph,
         start: usize,
         path: &mut Vec<PathStep>,
     ) -> Result<(), AllocError>
         requires within { start < length self.now.order.items }
-        requires words { length words.now ≡ length directory.now.owners.items }
-        requires listed { IsListing directory.now.objects.items self.now }
-        requires discovered { IsDiscovered directory.now.origin (root_words_of roots.now) words.now directory.now.objects.items self.now.order.items }
+        requires words { length graph.words.now ≡ length graph.directory.now.owners.items }
+        requires listed { IsListing graph.directory.now.objects.items self.now }
+        requires discovered { IsDiscovered graph.directory.now.origin (root_words_of graph.roots.now) graph.words.now graph.directory.now.objects.items self.now.order.items }
         requires empty { path.old.items ≡ [] }
-        ensures { OnOk result ((own : ℕ) → slice_get self.now.order.items start ≡ Some own → IsRowPath directory.now.origin roots.now words.now directory.now.objects.items (reverse path.new.items) own) }
+        ensures { OnOk result ((own : ℕ) → slice_get self.now.order.items start ≡ Some own → IsRowPath graph.directory.now.origin graph.roots.now graph.words.now graph.directory.now.objects.items (reverse path.new.items) own) }
     {
         let mut place = start;
         loop {
-            let Some(before) = self.step_back(roots, words, directory, place, path)? else {
+            let Some(before) = self.step_back(graph, place, path)? else {
                 return Ok(());
             };
             place = before;

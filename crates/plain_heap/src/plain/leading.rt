@@ -5,7 +5,7 @@ ghost use Rattle.plain_heap.specs.Standing.{StandsFor};
 ghost use Rattle.plain_heap.specs.Paths.{TellsPath};
 
 use super::PlainHeap;
-use crate::paths::{PathStep, place_of};
+use crate::paths::{Graph, PathStep, place_of};
 use std::alloc::{AllocError, Global};
 
 impl PlainHeap {
@@ -24,7 +24,12 @@ impl PlainHeap {
             return Ok(None);
         };
         let mut path = Vec::new(alloc);
-        listing.walk_back(&self.roots, &self.words, &self.directory, place, &mut path)?;
+        let graph = Graph {
+            roots: &self.roots,
+            words: &self.words,
+            directory: &self.directory,
+        };
+        listing.walk_back(graph, place, &mut path)?;
         path.reverse();
         Ok(Some(path))
     }
