@@ -21,6 +21,7 @@ mod meetings;
 mod noting;
 mod opening;
 mod replies;
+mod root_calls;
 mod tokens;
 
 pub use heap::SharedHeap;
