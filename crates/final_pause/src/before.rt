@@ -58,9 +58,9 @@ pub(crate) fn mark_before_helpers(marker: &mut Marker, graph: Graph, helpers: He
     requires memory { length graph.memory.now ≡ PAGE_WORDS * length graph.map.now }
     requires objects { AreMarksObjects (found_in graph.map.now) marker.old }
     requires invariant { DirtyPageInvariant (found_in graph.map.now) graph.memory.now marker.old }
-    ensures closure { result ≡ true → AreClosed (found_in graph.map.now) graph.memory.now graph.roots.now marker.old marker.new }
+    ensures closure { result ≡ true → AreClosed (found_in graph.entry.map.now) graph.entry.memory.now graph.entry.roots.now marker.old marker.new }
     ensures done { result ≡ true → IsDone marker.new }
-    ensures traces { Traces (found_in graph.map.now) graph.memory.now graph.roots.now marker.old marker.new }
+    ensures traces { Traces (found_in graph.entry.map.now) graph.entry.memory.now graph.entry.roots.now marker.old marker.new }
 {
     let least = helpers.least_words();
     if least == 0 {

@@ -123,7 +123,7 @@ impl<'a> Pause<'a> {
         requires on { (PAGE_GRANULES * dirty.page ≤ 64 * j) × (64 * (j + 1) ≤ PAGE_GRANULES * (dirty.page + 1)) }
         requires few { dirty.number ≤ MOST_PAGES }
         ensures serves { GoesOnServing (pause_view self.now) helper.old helper.new }
-        ensures read { AreObjectsRead (pause_view self.now) (view helper.new.claimer) helper.new.carried helper.old.place dirty.number (64 * j) (64 * (j + 1)) }
+        ensures read { AreObjectsRead (pause_view self.now) (view helper.new.claimer) helper.new.carried helper.old.place dirty.entry.number (64 * j) (64 * (j + 1)) }
     {
         let own = self.own_marks(helper, j, dirty.number);
         let mut rest = own;
@@ -141,7 +141,7 @@ impl<'a> Pause<'a> {
         requires cut { state_at self.now.map.now dirty.page ≡ cut dirty.block.now }
         requires few { dirty.number ≤ MOST_PAGES }
         ensures serves { GoesOnServing (pause_view self.now) helper.old helper.new }
-        ensures read { IsPageRead (pause_view self.now) (view helper.new.claimer) helper.new.carried helper.old.place dirty.number dirty.page }
+        ensures read { IsPageRead (pause_view self.now) (view helper.new.claimer) helper.new.carried helper.old.place dirty.entry.number dirty.entry.page }
     {
         if dirty.block.kind() == Kind::PointerFree {
             return;

@@ -68,8 +68,8 @@ fn mark_with_helpers<R: Threads + Wait + Sync, G: Gate>(
 ) -> bool
     requires pages { length marker.old.dirty ≡ length graph.map.now }
     requires memory { length graph.memory.now ≡ PAGE_WORDS * length graph.map.now }
-    ensures traces { Traces (found_in graph.map.now) graph.memory.now graph.roots.now marker.old marker.new }
-    ensures roots { result ≡ true → AreRootsMarked (found_in graph.map.now) graph.roots.now marker.new }
+    ensures traces { Traces (found_in graph.entry.map.now) graph.entry.memory.now graph.entry.roots.now marker.old marker.new }
+    ensures roots { result ≡ true → AreRootsMarked (found_in graph.entry.map.now) graph.entry.roots.now marker.new }
     ensures unchanged { result ≡ false → marker.new ≡ marker.old }
 {
     marker.laws();
@@ -99,9 +99,9 @@ pub fn close_marks_with<R: Threads + Wait + Sync, G: Gate>(
     requires memory { length graph.memory.now ≡ PAGE_WORDS * length graph.map.now }
     requires objects { AreMarksObjects (found_in graph.map.now) marker.old }
     requires invariant { DirtyPageInvariant (found_in graph.map.now) graph.memory.now marker.old }
-    ensures closure { AreClosed (found_in graph.map.now) graph.memory.now graph.roots.now marker.old marker.new }
+    ensures closure { AreClosed (found_in graph.entry.map.now) graph.entry.memory.now graph.entry.roots.now marker.old marker.new }
     ensures done { IsDone marker.new }
-    ensures traces { Traces (found_in graph.map.now) graph.memory.now graph.roots.now marker.old marker.new }
+    ensures traces { Traces (found_in graph.entry.map.now) graph.entry.memory.now graph.entry.roots.now marker.old marker.new }
 {
     if mark_before_helpers(marker, graph, helpers) {
         return;

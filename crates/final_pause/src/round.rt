@@ -87,7 +87,7 @@ impl Round {
 
     // What the helpers share.
     pub(crate) fn pause<'a>(&'a self, marker: &'a Marker, graph: Graph<'a>) -> Pause<'a>
-        ensures { pause_view result ≡ round_view self.now marker.now graph.map.now graph.memory.now graph.roots.now }
+        ensures { pause_view result ≡ round_view self.now marker.now graph.entry.map.now graph.entry.memory.now graph.entry.roots.now }
     {
         Pause {
             table: &self.table,
@@ -105,7 +105,7 @@ impl Round {
     /// read of objects that it was the first to mark. It takes no memory.
     pub fn help(&self, marker: &Marker, graph: Graph, most: u64, helper: &mut Helper) -> u64
         requires { IsServing (round_view self.now marker.now graph.map.now graph.memory.now graph.roots.now) helper.old }
-        ensures served { HasServed (round_view self.now marker.now graph.map.now graph.memory.now graph.roots.now) helper.old.place helper.new }
+        ensures served { HasServed (round_view self.now marker.now graph.entry.map.now graph.entry.memory.now graph.entry.roots.now) helper.old.place helper.new }
         ensures few { result ≤ most }
     {
         helper.left = most;
@@ -119,10 +119,10 @@ impl Round {
         requires round { IsRound (round_view self marker.old graph.map.now graph.memory.now graph.roots.now) self }
         requires all { vec_len crew ≡ self.helpers }
         requires served { AreServed (round_view self marker.old graph.map.now graph.memory.now graph.roots.now) 0 crew.items }
-        ensures traces { Traces (found_in graph.map.now) graph.memory.now graph.roots.now marker.old marker.new }
-        ensures roots { AreRootsMarked (found_in graph.map.now) graph.roots.now marker.new }
+        ensures traces { Traces (found_in graph.entry.map.now) graph.entry.memory.now graph.entry.roots.now marker.old marker.new }
+        ensures roots { AreRootsMarked (found_in graph.entry.map.now) graph.entry.roots.now marker.new }
         ensures empty { IsEmpty marker.new }
-        ensures dirty { DirtiesNew (found_in graph.map.now) marker.old marker.new }
+        ensures dirty { DirtiesNew (found_in graph.entry.map.now) marker.old marker.new }
     {
         marker.laws();
         let Round {

@@ -52,7 +52,7 @@ impl Listing {
         requires words { length graph.words.now ≡ length graph.directory.now.owners.items }
         requires listed { IsListing graph.directory.now.objects.items self.now }
         requires discovered { IsDiscovered graph.directory.now.origin (root_words_of graph.roots.now) graph.words.now graph.directory.now.objects.items self.now.order.items }
-        ensures { IfOk result (λ before. StepsBack graph.directory.now.origin graph.roots.now graph.words.now graph.directory.now.objects.items self.now.order.items place path.old.items path.new.items before) }
+        ensures { IfOk result (λ before. StepsBack graph.entry.directory.now.origin graph.entry.roots.now graph.entry.words.now graph.entry.directory.now.objects.items self.now.order.items place path.old.items path.new.items before) }
     {
         let own = self.order[place];
         let object = graph.directory.object(own);
@@ -83,7 +83,7 @@ impl Listing {
         requires listed { IsListing graph.directory.now.objects.items self.now }
         requires discovered { IsDiscovered graph.directory.now.origin (root_words_of graph.roots.now) graph.words.now graph.directory.now.objects.items self.now.order.items }
         requires empty { path.old.items ≡ [] }
-        ensures { OnOk result ((own : ℕ) → slice_get self.now.order.items start ≡ Some own → IsRowPath graph.directory.now.origin graph.roots.now graph.words.now graph.directory.now.objects.items (reverse path.new.items) own) }
+        ensures { OnOk result ((own : ℕ) → slice_get self.now.order.items start ≡ Some own → IsRowPath graph.entry.directory.now.origin graph.entry.roots.now graph.entry.words.now graph.entry.directory.now.objects.items (reverse path.new.items) own) }
     {
         let mut place = start;
         loop {
