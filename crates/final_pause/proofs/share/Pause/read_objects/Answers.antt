@@ -1,5 +1,4 @@
-use Rattle.std.proofs.Common.{◌≡◌, ℕ, ◌+◌, length, subst, arith}
-use Rattle.words.specs.declared.limits.TheConstants.{PAGE_BYTES}
+use Rattle.std.proofs.Common.{ℕ, ◌+◌, length, subst, arith}
 use Rattle.words.specs.Layout.{page_start}
 use Rattle.mark_bits.specs.Tables.{view}
 use Rattle.marker.specs.Parts.{HasPart}
@@ -25,7 +24,7 @@ loop-found-init g c =
 pub part_between-part-requires : goal.part_between-part-requires
 part_between-part-requires g c =
     let p = pause_view c.args.self.now in let r = c.requires.serving.fits.ready in let start = c.page_start-address.ensures in
-    subst (λ (high : ℕ). HasPart c.loop-found.address high c.in-Some.found) (let e : page_start (c.args.page + 1) ≡ c.page_start-address.result + PAGE_BYTES = omega arith in e)
+    subst (λ (high : ℕ). HasPart c.loop-found.address high c.in-Some.found) (omega (arith, start))
     (next_has_part (length p.map) (found p) r.map r.few c.loop-found.address (page_start (c.args.page + 1)) c.in-Some.found c.in-Some.ensures c.loop-found.invariant.aligned (omega arith))
 
 pub read_part-requires-clause-object : goal.read_part-requires-clause-object
