@@ -23,9 +23,9 @@ use words::{BitRow, CellRow, Class, Kind, PageNo};
 pub struct Block {
     pub(crate) class: Class,
     kind: Kind,
+    first: u16,
     pub(crate) reciprocal: u32,
     pub(crate) taken: CellRow,
-    first: u16,
 }
 
 impl Model for Block {
