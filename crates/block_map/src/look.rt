@@ -2,7 +2,7 @@
 //! multiplication.
 ghost use Rattle.std.specs.Prelude.{◌≡◌, ℕ, ◌+◌, ◌*◌, ◌%◌, ◌<◌, ◌≤◌, length, IfSome, MatchOption, Some};
 ghost use Rattle.words.specs.declared.class.Kind.{Kind};
-ghost use Rattle.words.specs.declared.limits.TheConstants.{FIRST_ADDRESS, MOST_PAGES, PAGE_BYTES, WORD_BYTES};
+ghost use Rattle.words.specs.declared.limits.TheConstants.{FIRST_ADDRESS, GRANULE_BYTES, MOST_PAGES, PAGE_BYTES, WORD_BYTES};
 ghost use Rattle.words.specs.Layout.{page_start, IsOnPage, IsOutside};
 ghost use Rattle.blocks.specs.Cells.{IsCells};
 ghost use Rattle.block_map.specs.States.{head, state_at};
@@ -14,7 +14,7 @@ use crate::found::Found;
 use crate::map::BlockMap;
 use crate::page::Page;
 use blocks::{Block, LargeHead};
-use words::limits::{FIRST_ADDRESS, PAGE_WORDS, WORD_BYTES};
+use words::limits::{FIRST_ADDRESS, GRANULE_BYTES, PAGE_BYTES, PAGE_WORDS, WORD_BYTES};
 use words::{PageNo, page_of, page_start};
 
 impl BlockMap {
@@ -42,6 +42,38 @@ impl BlockMap {
         let page = page_of(w) as PageNo;
         if let Page::Cut(block) = self.page(page) {
             return Some(find_in_block(page, block, w));
+        }
+        None
+    }
+
+    /// The object that begins at an address, if it has a cell. It costs less than a look-up of a word.
+    #[inline(always)]
+    pub fn base_in_cell(&self, w: u64) -> Option<Found>
+        requires aligned { w % GRANULE_BYTES ≡ 0 }
+        requires above { FIRST_ADDRESS ≤ w }
+        requires below { w < FIRST_ADDRESS + PAGE_BYTES * length self.now }
+        ensures found { IfSome result (λ f. (found_in self.now w ≡ Some f) × (f.base ≡ w)) }
+        ensures lawful { IsLawful self.now }
+    {
+        self.laws();
+        let page = page_of(w);
+        if let Some(Page::Cut(block)) = self.made_page(page as usize) {
+            return object_begun(page as PageNo, block, w);
+        }
+        None
+    }
+
+    /// The object with this base, if it has a cell. It costs least.
+    #[inline(always)]
+    pub fn cell_with_base(&self, base: u64) -> Option<Found>
+        requires base { (f : Found) × (found_in self.now base ≡ Some f) × (f.base ≡ base) }
+        ensures object { IfSome result (λ f. found_in self.now base ≡ Some f) }
+        ensures on_page { IfSome result (λ f. f.base % PAGE_BYTES + WORD_BYTES * f.len ≤ PAGE_BYTES) }
+    {
+        self.laws();
+        let page = page_of(base);
+        if let Some(Page::Cut(block)) = self.made_page(page as usize) {
+            return Some(object_in_block(page as PageNo, block, base));
         }
         None
     }
@@ -144,6 +176,30 @@ fn find_in_block(page: PageNo, block: &Block, w: u64) -> Option<Found>
     } else {
         None
     }
+}
+
+// The object of a block that begins at a granule of its page. The base isn't computed from the cell again.
+#[inline(always)]
+fn object_begun(page: PageNo, block: &Block, base: u64) -> Option<Found>
+    requires page { page < MOST_PAGES }
+    requires on { IsOnPage page base }
+    requires aligned { base % GRANULE_BYTES ≡ 0 }
+    ensures object { IfSome result (λ f. (found_in_block page block.now base ≡ Some f) × (f.base ≡ base)) }
+{
+    let granule = (base % PAGE_BYTES / GRANULE_BYTES) as u32;
+    let Some(cell) = block.cell_from(granule) else {
+        return None;
+    };
+    if !block.is_taken(cell) {
+        return None;
+    }
+    Some(Found {
+        base,
+        len: u32::from(block.class().words()),
+        kind: block.kind(),
+        page,
+        cell,
+    })
 }
 
 /// The object of a block that begins at an address of its page, and `None` exactly where none does. It costs less than a

@@ -253,6 +253,15 @@ impl BlockMap {
         }
     }
 
+    // What stands on a page, unless nothing was ever written there.
+    #[inline]
+    pub(crate) fn made_page(&self, page: usize) -> Option<&Page>
+        ensures some { IfSome result (λ p. state_at self.now page ≡ shown p.now) }
+        ensures none { IfNone result (state_at self.now page ≡ free) }
+    {
+        self.pages.made(page)
+    }
+
     // What stands on a page.
     #[inline]
     pub(crate) fn page(&self, page: PageNo) -> &Page

@@ -1,6 +1,6 @@
 //! The pages of a heap, of which only those below the highest one that ever had something are written. Of the others the
 //! memory is set aside at the start, and nothing of it is touched.
-ghost use Rattle.std.specs.Prelude.{◌≡◌, ℕ, ◌+◌, ◌<◌, ◌≤◌, length, map, slice_set, vec_capacity, vec_len, IfOk};
+ghost use Rattle.std.specs.Prelude.{◌≡◌, ℕ, ◌+◌, ◌<◌, ◌≤◌, length, map, slice_set, vec_capacity, vec_len, IfOk, IfNone, IfSome};
 ghost use Rattle.std.specs.Borrow.{sem};
 ghost use Rattle.words.specs.declared.limits.TheConstants.{MOST_PAGES};
 ghost use Rattle.block_map.specs.States.{cut, free, state_at, large_states, IsCut, IsSpanSet, AreFreePages};
@@ -95,6 +95,19 @@ impl PageList {
             &self.made[page]
         } else {
             &self.empty
+        }
+    }
+
+    /// What stands on a page, unless that page is past those that are made.
+    #[inline]
+    pub(crate) fn made(&self, page: usize) -> Option<&Page>
+        ensures some { IfSome result (λ p. state_at self.now page ≡ shown p.now) }
+        ensures none { IfNone result (state_at self.now page ≡ free) }
+    {
+        if page < self.made.len() {
+            Some(&self.made[page])
+        } else {
+            None
         }
     }
 

@@ -10,9 +10,9 @@ use words::limits::GRANULE_WORDS;
 use words::{BitRow, CellRow, PageNo};
 
 impl Block {
-    // The cell that begins at a granule of the page.
+    /// The cell that begins at a granule of the page, and `None` exactly where none does.
     #[inline]
-    fn cell_from(&self, granule: u32) -> Option<u16>
+    pub fn cell_from(&self, granule: u32) -> Option<u16>
         requires { granule < PAGE_GRANULES }
         ensures cell { MatchOption result ((i : ℕ) → BeginsAt self.now granule i → ⊥) (λ i. BeginsAt self.now granule i) }
         ensures cells { IsCells self.now }
