@@ -60,7 +60,7 @@ begun_taken p w i len kind b cells on aligned begins taken words is =
     let size = cells.size in let inside = begins.inside in
     let cell : IsInCell b.class i (w % PAGE_BYTES) = record { cell = omega arith; from = omega arith; below = omega arith } in
     let same : at_cell w len kind p i ≡ cell_object p b i =
-        ap (λ n. at_cell n len kind p i) (sym start.1) ∙ ap (λ n. at_cell (page_start p + i * (8 * b.class)) n kind p i) words ∙ ap (λ k. at_cell (page_start p + i * (8 * b.class)) b.class k p i) is in
+    ap (λ n. at_cell n len kind p i) (sym start.1) ∙ ap (λ n. at_cell (page_start p + i * (8 * b.class)) n kind p i) words ∙ ap (λ k. at_cell (page_start p + i * (8 * b.class)) b.class k p i) is in
     sym (block_taken p w i b (at_cell w len kind p i) cell taken same)
 
 -- what begins in a block at an address of its page
