@@ -49,10 +49,10 @@ impl Marker {
         ensures objects { AreMarksObjects (found_in map.now) self.new }
     {
         let bytes = heap_bytes(map);
-        let a = self.mark_word(map, bytes, first);
-        let b = self.mark_word(map, bytes, second);
-        let c = self.mark_word(map, bytes, third);
-        let d = self.mark_word(map, bytes, fourth);
+        let a = self.mark_word(map, bytes, first, false);
+        let b = self.mark_word(map, bytes, second, false);
+        let c = self.mark_word(map, bytes, third, false);
+        let d = self.mark_word(map, bytes, fourth, false);
         a | b | c | d
     }
 
@@ -77,8 +77,8 @@ impl Marker {
     }
 
     // Marks what words point into, one at a time.
-    #[inline]
-    fn mark_each(&mut self, map: &BlockMap, heap_bytes: u64, words: Words) -> bool
+    #[inline(always)]
+    fn mark_each(&mut self, map: &BlockMap, heap_bytes: u64, words: Words, here: bool) -> bool
         requires pages { length self.old.dirty ≡ length map.now }
         requires objects { AreMarksObjects (found_in map.now) self.old }
         requires lawful { IsLawful map.now }
@@ -89,7 +89,7 @@ impl Marker {
     {
         let mut stray = false;
         for word in words {
-            if self.mark_word(map, heap_bytes, word) {
+            if self.mark_word(map, heap_bytes, word, here) {
                 stray = true;
             }
         }
@@ -109,15 +109,21 @@ impl Marker {
     {
         let mut left = words;
         let first = self.mark_fours(map, heap_bytes, &mut left);
-        let last = self.mark_each(map, heap_bytes, left);
+        let last = self.mark_each(map, heap_bytes, left, false);
         first | last
     }
 
     // Marks what words point into, and answers whether one is stray. No mark between two of them can move them, since
     // they lie in a row of their own. The loop over fours stands in no caller, so that one that has few words is no longer
     // for it.
-    #[inline]
-    pub(crate) fn mark_all(&mut self, map: &BlockMap, heap_bytes: u64, words: Words) -> bool
+    #[inline(always)]
+    pub(crate) fn mark_all(
+        &mut self,
+        map: &BlockMap,
+        heap_bytes: u64,
+        words: Words,
+        here: bool,
+    ) -> bool
         requires pages { length self.old.dirty ≡ length map.now }
         requires objects { AreMarksObjects (found_in map.now) self.old }
         requires lawful { IsLawful map.now }
@@ -127,24 +133,29 @@ impl Marker {
         ensures objects { AreMarksObjects (found_in map.now) self.new }
     {
         if words.len() < FEW {
-            self.mark_each(map, heap_bytes, words)
+            self.mark_each(map, heap_bytes, words, here)
         } else {
             self.mark_many(map, heap_bytes, words)
         }
     }
 
-    // Makes the page carried.
+    // Makes the page of an address carried.
     #[cold]
-    pub(crate) fn carry(&mut self, page: PageNo)
-        requires { page < length self.old.carried }
-        ensures { self.new ≡ with_carried self.old (slice_set self.old.carried page true) }
+    #[inline(never)]
+    pub(crate) fn carry(&mut self, address: u64)
+        requires above { FIRST_ADDRESS ≤ address }
+        requires inside { page_of address < length self.old.carried }
+        ensures { self.new ≡ with_carried self.old (slice_set self.old.carried (page_of address) true) }
     {
+        // Its clauses tell that the pages are few.
+        self.laws();
+        let page = page_of(address) as PageNo;
         self.carried.set(page);
     }
 
     // Marks what words of an object point into: so many, from its word `first` on, which stand on one page. The page is
     // carried if one of them is stray.
-    #[inline]
+    #[inline(always)]
     pub(crate) fn mark_words(
         &mut self,
         map: &BlockMap,
@@ -153,6 +164,7 @@ impl Marker {
         found: Found,
         first: u32,
         count: u64,
+        here: bool,
     )
         requires pages { length self.old.dirty ≡ length map.now }
         requires objects { AreMarksObjects (found_in map.now) self.old }
@@ -171,8 +183,8 @@ impl Marker {
         self.laws();
         reader.laws();
         let start = found.base + WORD_BYTES * u64::from(first);
-        if self.mark_all(map, heap_bytes, reader.read_run(start, count)) {
-            self.carry(page_of(start) as PageNo);
+        if self.mark_all(map, heap_bytes, reader.read_run(start, count), here) {
+            self.carry(start);
         }
     }
 
@@ -185,6 +197,7 @@ impl Marker {
         heap_bytes: u64,
         reader: &mut Reader,
         found: Found,
+        here: bool,
     )
         requires pages { length self.old.dirty ≡ length map.now }
         requires objects { AreMarksObjects (found_in map.now) self.old }
@@ -200,9 +213,9 @@ impl Marker {
         ensures objects { AreMarksObjects (found_in map.now) self.new }
     {
         match found.len {
-            2 => self.mark_words(map, heap_bytes, reader, found, 0, 2),
-            4 => self.mark_words(map, heap_bytes, reader, found, 0, 4),
-            len => self.mark_words(map, heap_bytes, reader, found, 0, u64::from(len)),
+            2 => self.mark_words(map, heap_bytes, reader, found, 0, 2, here),
+            4 => self.mark_words(map, heap_bytes, reader, found, 0, 4, here),
+            len => self.mark_words(map, heap_bytes, reader, found, 0, u64::from(len), here),
         }
     }
 
@@ -220,6 +233,6 @@ impl Marker {
     {
         self.laws();
         let heap_bytes = heap_bytes(map);
-        self.mark_all(map, heap_bytes, Words::new(roots));
+        self.mark_all(map, heap_bytes, Words::new(roots), false);
     }
 }

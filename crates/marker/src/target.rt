@@ -20,9 +20,15 @@ use words::{Kind, granule_of};
 impl Marker {
     // Marks the object that the word points into. The heap's range is tested here, before the map is asked, and a word that is the
     // base of a marked object has its mark looked at alone. Answers whether the word is stray: it lies in the range and points into
-    // no object.
-    #[inline]
-    pub(crate) fn mark_word(&mut self, map: &BlockMap, heap_bytes: u64, word: u64) -> bool
+    // no object. Where `here` is true the steps that an unmarked base takes are part of the caller too.
+    #[inline(always)]
+    pub(crate) fn mark_word(
+        &mut self,
+        map: &BlockMap,
+        heap_bytes: u64,
+        word: u64,
+        here: bool,
+    ) -> bool
         requires pages { length self.old.dirty ≡ length map.now }
         requires objects { AreMarksObjects (found_in map.now) self.old }
         requires lawful { IsLawful map.now }
@@ -39,6 +45,48 @@ impl Marker {
         if self.is_marked_base(word) {
             return false;
         }
+        self.mark_unmarked(map, word, here)
+    }
+
+    // Marks the object that a word points into which is no marked base. Of a base in a cell no look-up is needed, where `here` is true.
+    #[inline(always)]
+    fn mark_unmarked(&mut self, map: &BlockMap, word: u64, here: bool) -> bool
+        requires pages { length self.old.dirty ≡ length map.now }
+        requires objects { AreMarksObjects (found_in map.now) self.old }
+        requires lawful { IsLawful map.now }
+        requires inside { (FIRST_ADDRESS ≤ word) × (word < FIRST_ADDRESS + PAGE_BYTES * length map.now) }
+        requires unmarked { word % GRANULE_BYTES ≡ 0 → Has self.old.marks (granule word) → ⊥ }
+        ensures marks { MarksWord (found_in map.now) word self.old self.new }
+        ensures stray { TellsStray (found_in map.now) (PAGE_BYTES * length map.now) (word ∷ []) result }
+        ensures objects { AreMarksObjects (found_in map.now) self.new }
+    {
+        if !here {
+            return self.mark_target(map, word);
+        }
+        self.laws();
+        if word % GRANULE_BYTES == 0 && self.depth() < ENTRIES {
+            if let Some(found) = map.base_in_cell(word) {
+                self.mark_base(word, found.kind);
+                return false;
+            }
+        }
+        self.mark_other(map, word)
+    }
+
+    // The same of what is no base in a cell, or finds the stack full. That such words are rare tells a compiler which of the machine's registers
+    // the loop over words is to have.
+    #[cold]
+    #[inline(never)]
+    fn mark_other(&mut self, map: &BlockMap, word: u64) -> bool
+        requires pages { length self.old.dirty ≡ length map.now }
+        requires objects { AreMarksObjects (found_in map.now) self.old }
+        requires lawful { IsLawful map.now }
+        requires inside { (FIRST_ADDRESS ≤ word) × (word < FIRST_ADDRESS + PAGE_BYTES * length map.now) }
+        requires unmarked { word % GRANULE_BYTES ≡ 0 → Has self.old.marks (granule word) → ⊥ }
+        ensures marks { MarksWord (found_in map.now) word self.old self.new }
+        ensures stray { TellsStray (found_in map.now) (PAGE_BYTES * length map.now) (word ∷ []) result }
+        ensures objects { AreMarksObjects (found_in map.now) self.new }
+    {
         self.mark_target(map, word)
     }
 

@@ -17,7 +17,6 @@ use arrayvec::ArrayVec;
 use block_map::{BlockMap, Found};
 use pages::Reader;
 use words::limits::{PAGE_WORDS, WORD_BYTES};
-use words::{PageNo, page_of};
 
 // So many objects are begun together.
 pub(crate) const TOGETHER: usize = 8;
@@ -95,6 +94,9 @@ impl Marker {
         map.laws();
         let mut left = most;
         for _ in 0..TOGETHER {
+            if self.depth() <= known {
+                return;
+            }
             let Some(found) = self.top(map, known) else {
                 return;
             };
@@ -124,12 +126,12 @@ impl Marker {
         self.laws();
         reader.laws();
         let others = u64::from(begun.len) - 2;
-        let first = self.mark_word(map, heap_bytes, begun.first);
-        let second = self.mark_word(map, heap_bytes, begun.second);
+        let first = self.mark_word(map, heap_bytes, begun.first, false);
+        let second = self.mark_word(map, heap_bytes, begun.second, false);
         let words = reader.read_run(begun.base + 2 * WORD_BYTES, others);
-        let rest = self.mark_all(map, heap_bytes, words);
+        let rest = self.mark_all(map, heap_bytes, words, false);
         if first | second | rest {
-            self.carry(page_of(begun.base) as PageNo);
+            self.carry(begun.base);
         }
     }
 

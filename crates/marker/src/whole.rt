@@ -1,9 +1,9 @@
 //! Objects that are read whole, one after the other. Most are small and their entries were pushed in the same step, so that
 //! a step spends its time here.
-ghost use Rattle.std.specs.Prelude.{◌≡◌, ℕ, ◌+◌, ◌-◌, ◌*◌, ◌<◌, ◌≤◌, ◌++◌, ◌∷◌, [], List, length, true, IfSome};
-ghost use Rattle.words.specs.declared.limits.TheConstants.{FIRST_ADDRESS, MARK_STACK_ENTRIES, MOST_PAGES, PAGE_BYTES, PAGE_WORDS};
+ghost use Rattle.std.specs.Prelude.{◌≡◌, ℕ, ◌+◌, ◌-◌, ◌*◌, ◌%◌, ◌<◌, ◌≤◌, ◌++◌, ◌∷◌, [], List, length, true, IfSome};
+ghost use Rattle.words.specs.declared.limits.TheConstants.{FIRST_ADDRESS, MARK_STACK_ENTRIES, MOST_PAGES, PAGE_BYTES, PAGE_WORDS, WORD_BYTES};
 ghost use Rattle.words.specs.Layout.{page_of};
-ghost use Rattle.block_map.specs.Objects.{IsPlaced, LiesOnPage};
+ghost use Rattle.block_map.specs.Objects.{IsPlaced};
 ghost use Rattle.block_map.specs.FoundIn.{found_in, IsLawful};
 ghost use Rattle.marker.specs.Marking.{word_address, AreMarksObjects};
 ghost use Rattle.marker.specs.declared.entry.Entry.{Entry};
@@ -14,7 +14,6 @@ use crate::stack::ENTRIES;
 use crate::together::TOGETHER;
 use block_map::{BlockMap, Found};
 use pages::Reader;
-use words::limits::PAGE_WORDS;
 
 // Objects are read together where so many wait that are known to have words, and at most so many in all: eight of four words
 // each may fill the rest of the stack then. Few wait in a tree, which mostly lies in the order in which it is marked, so that
@@ -23,37 +22,37 @@ const WIDE: usize = 2 * TOGETHER;
 
 const CROWDED: usize = ENTRIES - 4 * TOGETHER;
 
-// Whether the words of an object are at most so many, and stand on one page. Each object has words: a compiler learns it here, by
-// a test that it needs anyway, and leaves out two behind it.
+// Whether the words of an object are at most so many. An object that has a cell stands on one page.
 #[inline]
 fn is_whole(found: Found, most: u64) -> bool
+    requires some { 0 < found.len }
     requires above { FIRST_ADDRESS ≤ found.base }
-    requires on_page { LiesOnPage found }
+    requires on_page { found.base % PAGE_BYTES + WORD_BYTES * found.len ≤ PAGE_BYTES }
     ensures some { result ≡ true → 0 < found.len }
     ensures most { result ≡ true → found.len ≤ most }
     ensures one_page { result ≡ true → (i : ℕ) → 0 ≤ i → i < 0 + found.len → page_of (word_address found i) ≡ page_of (word_address found 0) }
 {
-    found.len > 0 && found.len <= PAGE_WORDS as u32 && u64::from(found.len) <= most
+    u64::from(found.len) <= most
 }
 
 impl Marker {
-    // The object of the entry on top of the stack, unless that entry's number is below `known`.
-    #[inline]
+    // The object of the entry on top of the stack, which is known to have words, if that object has a cell.
+    #[inline(always)]
     pub(crate) fn top(&self, map: &BlockMap, known: usize) -> Option<Found>
-        requires { AreUnreadFrom (found_in map.now) self.now known self.now.stack }
+        requires unread { AreUnreadFrom (found_in map.now) self.now known self.now.stack }
+        requires known { known < length self.now.stack }
         ensures top { IfSome result (λ f. IsOnTop (found_in map.now) self.now f) }
         ensures placed { IfSome result (λ f. IsPlaced (length map.now) f) }
-        ensures on_page { IfSome result LiesOnPage }
-        ensures known { IfSome result (λ f. known < length self.now.stack) }
+        ensures on_page { IfSome result (λ f. f.base % PAGE_BYTES + WORD_BYTES * f.len ≤ PAGE_BYTES) }
     {
         let waiting = self.waiting();
         let count = waiting.len();
-        if known >= count {
-            return None;
-        }
         self.laws();
         map.laws();
-        Some(map.object_at(waiting[count - 1].base))
+        let Some(found) = map.cell_with_base(waiting[count - 1].base) else {
+            return None;
+        };
+        Some(found)
     }
 
     // Takes the entry on top off the stack.
@@ -69,7 +68,7 @@ impl Marker {
     }
 
     // Takes the entry on top off the stack, and reads all words of its object.
-    #[inline]
+    #[inline(always)]
     fn read_whole(&mut self, map: &BlockMap, heap_bytes: u64, reader: &mut Reader, found: Found)
         requires pages { length self.old.dirty ≡ length map.now }
         requires objects { AreMarksObjects (found_in map.now) self.old }
@@ -88,12 +87,12 @@ impl Marker {
     {
         self.laws();
         self.drop_top();
-        self.mark_object(map, heap_bytes, reader, found);
+        self.mark_object(map, heap_bytes, reader, found, true);
     }
 
-    // Reads the object of the entry on top of the stack whole, if that entry is known to have words and it has as many at most as are
-    // left to read. Answers whether it did, which a compiler then knows without a look at the number.
-    #[inline]
+    // Reads the object of the entry on top of the stack whole, which is known to have words, if it has a cell and as many words at most as
+    // are left to read. Answers whether it did, which a compiler then knows without a look at the number.
+    #[inline(always)]
     fn read_top(
         &mut self,
         map: &BlockMap,
@@ -108,6 +107,7 @@ impl Marker {
         requires bytes { heap_bytes ≡ PAGE_BYTES * length map.now }
         requires memory { length reader.old.words ≡ PAGE_WORDS * length map.now }
         requires known { AreUnreadFrom (found_in map.now) self.old known self.old.stack }
+        requires some { known < length self.old.stack }
         ensures takes { TakesWhole (found_in map.now) reader.old.moments self.old (left.old - left.new) self.new }
         ensures known { AreUnreadFrom (found_in map.now) self.new known self.new.stack }
         ensures less { left.new ≤ left.old }
@@ -131,9 +131,46 @@ impl Marker {
         true
     }
 
-    // Reads some objects whole: several together where so many wait and there is room for what they may lead to, and else the
-    // one on top of the stack. Answers whether there was one that can be read at once.
-    #[inline]
+    // The same where not so few wait: several objects are read together where there is room for what they may lead to, and none where
+    // none is known. Answers how many words were read. It is no part of its caller, whose loop is for few.
+    #[inline(never)]
+    fn read_many(
+        &mut self,
+        map: &BlockMap,
+        heap_bytes: u64,
+        reader: &mut Reader,
+        known: usize,
+        most: u64,
+    ) -> u64
+        requires pages { length self.old.dirty ≡ length map.now }
+        requires objects { AreMarksObjects (found_in map.now) self.old }
+        requires lawful { IsLawful map.now }
+        requires bytes { heap_bytes ≡ PAGE_BYTES * length map.now }
+        requires memory { length reader.old.words ≡ PAGE_WORDS * length map.now }
+        requires known { AreUnreadFrom (found_in map.now) self.old known self.old.stack }
+        ensures takes { TakesWhole (found_in map.now) reader.old.moments self.old result self.new }
+        ensures known { AreUnreadFrom (found_in map.now) self.new known self.new.stack }
+        ensures most { result ≤ most }
+        ensures words { reader.new.words ≡ reader.old.words }
+        ensures moments { reader.new.moments ≡ reader.old.moments }
+        ensures reads { reader.new.reads ≡ reader.old.reads + result }
+        ensures objects { AreMarksObjects (found_in map.now) self.new }
+    {
+        let depth = self.depth();
+        if depth <= known {
+            return 0;
+        }
+        if depth <= CROWDED {
+            return self.read_together(map, heap_bytes, reader, known, most);
+        }
+        let mut left = most;
+        self.read_top(map, heap_bytes, reader, known, &mut left);
+        most - left
+    }
+
+    // Reads some objects whole: several together where so many wait, and else the one on top of the stack. Answers whether there was
+    // one that can be read at once.
+    #[inline(always)]
     fn read_some(
         &mut self,
         map: &BlockMap,
@@ -158,15 +195,13 @@ impl Marker {
         ensures reads { reader.new.reads + left.new ≡ reader.old.reads + left.old }
         ensures objects { AreMarksObjects (found_in map.now) self.new }
     {
-        let wide = known + WIDE;
-        // From `wide` to `CROWDED`, by one test.
-        if self.depth().wrapping_sub(wide) <= CROWDED.saturating_sub(wide) {
-            let read = self.read_together(map, heap_bytes, reader, known, *left);
-            *left -= read;
-            read > 0
-        } else {
-            self.read_top(map, heap_bytes, reader, known, left)
+        // Whether one is known at least and fewer than `WIDE`, by one test.
+        if self.depth().wrapping_sub(known + 1) < WIDE - 1 {
+            return self.read_top(map, heap_bytes, reader, known, left);
         }
+        let read = self.read_many(map, heap_bytes, reader, known, *left);
+        *left -= read;
+        read > 0
     }
 
     // Reads objects whole, at most so many words: those of the entries on top of the stack, while these are known to have

@@ -69,8 +69,8 @@ on_page c =
     let same = ap length (words_same (found_in c.args.map.now) c.args.self.now (marks c)) in
     omega arith
 
-pub carry-requires : goal.carry-requires
-carry-requires c = let p = c.page_of.ensures in let on = on_page (goal.at.carry-requires c).After-mark_all-rest in omega arith
+pub carry-requires-clause-inside : goal.carry-requires-clause-inside
+carry-requires-clause-inside c = on_page (goal.at.carry-requires-clause-inside c).After-mark_all-rest
 
 -- the object is that of its base
 is_object : (c : After-mark_all-rest) → (f : Found) → found_in c.args.map.now c.args.begun.base ≡ Some f → c.requires.begun.object ≡ f
@@ -81,7 +81,6 @@ returns-then-first-second-clause-row c f is base =
     let a = (goal.at.returns-then-first-second-clause-row c).After-mark_all-rest in
     let b = c.requires.begun in
     let r = row a in
-    let p = c.page_of.ensures in
     let at : b.object.base ≡ c.args.begun.base = b.unread.base in
     let on = on_page a in
     subst (λ (g : Found). MarksRow (found_in c.args.map.now) c.args.reader.now.moments g 0 g.len (PAGE_BYTES * length c.args.map.now) (page_of (word_address g 0)) c.args.self.now c.carry.new.self) (is_object a f is)

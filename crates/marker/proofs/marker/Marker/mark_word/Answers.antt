@@ -25,8 +25,8 @@ is_marked_base-requires c =
     let low = at.0 in let high = at.1 in let pages = c.requires.pages in let marks = c.laws.ensures.marks in
     record { inside = (low, omega (arith, low, high, pages, marks)) }
 
-pub mark_target-requires-clause-inside : goal.mark_target-requires-clause-inside
-mark_target-requires-clause-inside c = inside (goal.at.mark_target-requires-clause-inside c).After-laws
+pub mark_unmarked-requires-clause-inside : goal.mark_unmarked-requires-clause-inside
+mark_unmarked-requires-clause-inside c = inside (goal.at.mark_unmarked-requires-clause-inside c).After-laws
 
 pub returns-then-is_marked_base-clause-marks : goal.returns-then-is_marked_base-clause-marks
 returns-then-is_marked_base-clause-marks c = word_marked (found_in c.args.map.now) c.args.self.now c.args.word
@@ -36,5 +36,5 @@ pub returns-then-is_marked_base-clause-stray : goal.returns-then-is_marked_base-
 returns-then-is_marked_base-clause-stray c = tells_marked (found_in c.args.map.now) (PAGE_BYTES * length c.args.map.now) c.args.self.now c.args.word
     (marked_base (length c.args.map.now) (found_in c.args.map.now) c.args.self.now c.args.word c.requires.lawful.map c.requires.objects (inside (goal.at.returns-then-is_marked_base-clause-stray c).After-laws).0 (c.is_marked_base.ensures.yes c.if-is_marked_base.true).0 (c.is_marked_base.ensures.yes c.if-is_marked_base.true).1)
 
-pub mark_target-requires-clause-unmarked : goal.mark_target-requires-clause-unmarked
-mark_target-requires-clause-unmarked c = c.is_marked_base.ensures.no c.if-is_marked_base.false
+pub mark_unmarked-requires-clause-unmarked : goal.mark_unmarked-requires-clause-unmarked
+mark_unmarked-requires-clause-unmarked c = c.is_marked_base.ensures.no c.if-is_marked_base.false

@@ -26,10 +26,10 @@ run c =
     let inside : word_index start + c.args.count ≤ length seen = omega arith in
     c.read_run.ensures.run.2 ∙ run_words seen c.args.found c.args.first c.args.count start is (omega arith) inside
 
-pub carry-requires : goal.carry-requires
-carry-requires c =
-    let a = (goal.at.carry-requires c).After-mark_all in
-    let f = c.from.ensures in let q = c.page_of.ensures in
+pub carry-requires-clause-inside : goal.carry-requires-clause-inside
+carry-requires-clause-inside c =
+    let a = (goal.at.carry-requires-clause-inside c).After-mark_all in
+    let f = c.from.ensures in
     let consistent = c.laws.ensures.carried in let pages = c.requires.pages in
     let same = ap length (words_same (found_in c.args.map.now) c.args.self.now c.mark_all.ensures.marks) in
     let on = run_page (length c.args.map.now) c.read_run.ensures.run.0 c.args.found c.args.first c.args.count (found_in c.args.map.now) (PAGE_BYTES * length c.args.map.now) c.read_run.result c.mark_all.result c.requires.placed c.requires.fits (run a) c.mark_all.ensures.stray c.if-mark_all.true in
@@ -38,7 +38,7 @@ carry-requires c =
 pub returns-then-mark_all-clause-row : goal.returns-then-mark_all-clause-row
 returns-then-mark_all-clause-row c =
     let a = (goal.at.returns-then-mark_all-clause-row c).After-mark_all in
-    let f = c.from.ensures in let q = c.page_of.ensures in
+    let f = c.from.ensures in
     let consistent = c.laws.ensures.carried in let pages = c.requires.pages in
     let same = ap length (words_same (found_in c.args.map.now) c.args.self.now c.mark_all.ensures.marks) in
     let on = run_page (length c.args.map.now) c.read_run.ensures.run.0 c.args.found c.args.first c.args.count (found_in c.args.map.now) (PAGE_BYTES * length c.args.map.now) c.read_run.result c.mark_all.result c.requires.placed c.requires.fits (run a) c.mark_all.ensures.stray c.if-mark_all.true in
