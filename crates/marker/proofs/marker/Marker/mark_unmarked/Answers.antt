@@ -1,5 +1,4 @@
-use Rattle.std.proofs.Common.{◌+◌, ◌*◌, ◌<◌, ◌≤◌, length, refl, arith}
-use Rattle.words.specs.Layout.{granule}
+use Rattle.std.proofs.Common.{length, refl, arith}
 use Rattle.block_map.specs.FoundIn.{found_in}
 use Rattle.marker.proofs.Objects.{objects_word}
 use Rattle.marker.proofs.marker.Marker.mark_unmarked.Goals as goal

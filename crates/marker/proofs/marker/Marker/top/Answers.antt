@@ -1,4 +1,3 @@
-use Rattle.std.proofs.Common.{◌<◌, length, subst}
 use Rattle.block_map.specs.FoundIn.{found_in}
 use Rattle.marker.proofs.Known.{known_top}
 use Rattle.marker.proofs.marker.Marker.top.Goals as goal
