@@ -126,8 +126,8 @@ impl Marker {
         self.laws();
         reader.laws();
         let others = u64::from(begun.len) - 2;
-        let first = self.mark_word(map, heap_bytes, begun.first, true);
-        let second = self.mark_word(map, heap_bytes, begun.second, true);
+        let first = self.mark_word(map, heap_bytes, begun.first, false);
+        let second = self.mark_word(map, heap_bytes, begun.second, false);
         let words = reader.read_run(begun.base + 2 * WORD_BYTES, others);
         let rest = self.mark_all(map, heap_bytes, words, false);
         if first | second | rest {
