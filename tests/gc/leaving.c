@@ -1,0 +1,135 @@
+/* Functions that are left otherwise than by a return: one that GC_do_blocking has called, by a cancellation, and finalizers, by a jump. What
+ * comes behind is as ever. Over bdwgc (OTHER) the finalizers alone. */
+#define _GNU_SOURCE
+#define GC_THREADS
+#include <pthread.h>
+#include <setjmp.h>
+#include <stdatomic.h>
+#include <stdint.h>
+#include <stdlib.h>
+#include <time.h>
+#include <unistd.h>
+#ifdef OTHER
+#include <gc/gc.h>
+#else
+#include "gc.h"
+#endif
+#include "check.h"
+
+static void rest(long milliseconds)
+{
+    struct timespec left = { milliseconds / 1000, milliseconds % 1000 * 1000000 };
+    while (nanosleep(&left, &left) != 0) continue;
+}
+
+#ifndef OTHER
+static atomic_int stage;
+static void come_to(int which)
+{
+    stage = which;
+    while (stage == which) rest(1);
+}
+
+/* Far below where the thread stood when it was blocked. What only this frame names is kept, while another thread collects. */
+enum { WORDS = 4, FAR = 60000, MANY = 20000 };
+__attribute__((noinline)) static int keeps_what_it_makes(int stop)
+{
+    volatile char frame[FAR];
+    frame[0] = 1;
+    uintptr_t *volatile made = GC_malloc(WORDS * sizeof *made);
+    for (uintptr_t k = 0; k < WORDS; k++) made[k] = k + 12345;
+    come_to(stop);
+    for (int k = 0; k < MANY; k++) memset(GC_malloc(WORDS * sizeof *made), 7, WORDS * sizeof *made);
+    int right = frame[0];
+    for (uintptr_t k = 0; k < WORDS; k++) right &= made[k] == k + 12345;
+    return right;
+}
+
+static int was_right;
+static void clean(void *data)
+{
+    (void)data;
+    was_right = keeps_what_it_makes(2);
+}
+static void *wait_for_ever(void *data)
+{
+    for (;;) pause();
+    return data;
+}
+static void *block_in_active(void *data) { return GC_do_blocking(wait_for_ever, data); }
+static void *block_twice(void *data) { return GC_call_with_gc_active(block_in_active, data); }
+static void *be_cancelled(void *is_nested)
+{
+    pthread_cleanup_push(clean, NULL);
+    stage = 1;
+    GC_do_blocking(is_nested ? block_twice : wait_for_ever, NULL);
+    pthread_cleanup_pop(0);
+    return is_nested;
+}
+static void cancelled_while_blocked(void *is_nested)
+{
+    pthread_t thread;
+    void *answer = NULL;
+    stage = 0;
+    was_right = 0;
+    pthread_create(&thread, NULL, be_cancelled, is_nested);
+    while (stage != 1) rest(1);
+    rest(20);
+    pthread_cancel(thread);
+    while (stage != 2) rest(1);
+    for (int k = 0; k < 3; k++) GC_gcollect();
+    stage = 3;
+    CHECK(pthread_join(thread, &answer) == 0 && answer == PTHREAD_CANCELED && was_right);
+}
+#endif
+
+static jmp_buf back;
+static int jumps, ran;
+static void finalize(void *object, void *data)
+{
+    (void)object;
+    (void)data;
+    ran++;
+    if (jumps) {
+        jumps = 0;
+        longjmp(back, 1);
+    }
+}
+__attribute__((noinline)) static void make_finalized(int count)
+{
+    for (int k = 0; k < count; k++) GC_REGISTER_FINALIZER(GC_MALLOC(16), finalize, NULL, NULL, NULL);
+}
+
+/* The stack stays deeper than where that one was called. */
+__attribute__((noinline)) static int runs_others_below(int depth)
+{
+    volatile char frame[100];
+    frame[0] = 0;
+    if (depth > 0) return runs_others_below(depth - 1) + frame[0];
+    for (int k = 0; k < 2000 && ran < 20; k++) {
+        for (int j = 0; j < 1000; j++) (void)GC_MALLOC(64);
+    }
+    return ran + frame[0];
+}
+static void jumped_out_of_a_finalizer(void)
+{
+    make_finalized(30);
+    jumps = 1;
+    if (setjmp(back) == 0)
+        for (int k = 0; k < 10; k++) GC_gcollect();
+    CHECK(ran == 1 && jumps == 0);
+    CHECK(runs_others_below(50) >= 20);
+}
+
+int main(void)
+{
+    alarm(300);
+    GC_INIT();
+    if (getenv("INCREMENTAL")) GC_enable_incremental();
+    jumped_out_of_a_finalizer();
+#ifndef OTHER
+    cancelled_while_blocked(NULL);
+    cancelled_while_blocked(&stage);
+#endif
+    return check_ends();
+}
