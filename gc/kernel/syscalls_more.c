@@ -7,6 +7,7 @@
 #include <stdarg.h>
 #include <sys/epoll.h>
 #include <sys/ioctl.h>
+#include <sys/mman.h>
 #include <sys/random.h>
 #include <sys/resource.h>
 #include <sys/select.h>
@@ -199,11 +200,8 @@ SHOWN void arc4random_buf(void *into, size_t bytes)
     mpgc_wrote();
 }
 
-// Signals that came.
+// Signals that came: those that are waited for are in masks.c.
 OPENS(int, sigpending, (sigset_t *into), (into), into, sizeof *into)
-OPENS(int, sigwaitinfo, (const sigset_t *restrict signals, siginfo_t *restrict into), (signals, into), into, sizeof *into)
-OPENS(int, sigtimedwait, (const sigset_t *restrict signals, siginfo_t *restrict into, const struct timespec *restrict timeout),
-      (signals, into, timeout), into, sizeof *into)
 
 // What a device writes is as long as its number says, where that says it, and else no more than a page, behind the pointer.
 SHOWN int ioctl(int file, unsigned long number, ...)
@@ -215,4 +213,11 @@ SHOWN int ioctl(int file, unsigned long number, ...)
     va_end(rest);
     if (GC_is_heap_ptr(into)) mpgc_will_write(into, _IOC_SIZE(number) ? _IOC_SIZE(number) : PAGE);
     SAYS(next(file, number, into));
+}
+
+// Memory is locked as it is touched: the addresses of the largest heap would all take memory at once, and more than most machines have.
+SHOWN int mlockall(int flags)
+{
+    NEXT(int, mlockall, (int));
+    return next(flags & (MCL_CURRENT | MCL_FUTURE) ? flags | MCL_ONFAULT : flags);
 }
