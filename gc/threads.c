@@ -15,6 +15,7 @@
 #include <errno.h>
 #include <stdlib.h>
 #include <sys/mman.h>
+#include <unistd.h>
 
 SHOWN int GC_pthread_create(pthread_t *thread, const pthread_attr_t *attributes, void *(*start)(void *), void *data);
 SHOWN _Noreturn void GC_pthread_exit(void *answer);
@@ -234,6 +235,7 @@ static void on_goodbye(void *record)
     forget(self);
     mpgc_unlock();
     mpgc_drop_keys();
+    mpgc_drop_signals_stack();
 }
 
 void GC_pthread_exit(void *answer)
@@ -320,14 +322,35 @@ static char *bottom_of(const struct thread *thread)
     return thread == &mpgc.first ? GC_stackbottom : (char *)(uintptr_t)thread->bottom;
 }
 
+// The lowest place of a stack that is there: where the thread was on it isn't known. What isn't mapped is left alone, since it would be from
+// then on; and a stack of the program's own may end with a page that can't be read.
+static const char *lowest(const char *low, const char *bottom)
+{
+    char *at = (char *)((uintptr_t)bottom & ~(PAGE - 1));
+    unsigned char answer;
+    int kept = errno;
+    while (at > low && mincore(at - PAGE, PAGE, &answer) == 0 && mpgc_can_be_read(at - WORD)) at -= PAGE;
+    errno = kept;
+    return at;
+}
+
+// The process's first stack may have grown past where it might end when the thread was looked at, since the program has allowed it more: then all
+// is mapped that lies between.
+static bool is_on_own_stack(struct thread *one, const char *top)
+{
+    bool may_grow = top < one->low && one->number == (uint32_t)getpid();
+    if (may_grow && lowest(top, one->bottom) <= top) one->low = top;
+    return top >= one->low && top < one->bottom;
+}
+
 // A program of one thread that moves between stacks says so by that variable alone, a moment before it moves or behind it: so where the first
 // thread was stopped it is certain only on the stack that it began with.
 bool mpgc_first_is_at_home(void)
 {
-    const struct thread *first = &mpgc.first;
+    struct thread *first = &mpgc.first;
     const char *top = first->alt_top ? first->under : first->top;
     if (first == mpgc_self || first->state == ENDED) return true;
-    return GC_stackbottom == first->bottom && (!top || !first->low || (top >= first->low && top < first->bottom));
+    return GC_stackbottom == first->bottom && (!top || !first->low || is_on_own_stack(first, top));
 }
 
 void *mpgc_this_thread(void) { return mpgc_self; }
@@ -353,14 +376,16 @@ void GC_set_stackbottom(void *thread, const struct GC_stack_base *base)
 
 struct call { GC_fn_type function; void *data, *answer; };
 
+// Also where the function is left by an exception, or the thread is cancelled in it: what handles that may make requests.
+static void be_again(const enum thread_state *was) { become(*was); }
+
 // All that the thread has lies above what mpgc_from_here has saved, and isn't changed before the lock was taken.
 static bool call_blocked(void *data)
 {
     struct call *call = data;
-    enum thread_state was = (enum thread_state)mpgc_self->state;
+    __attribute__((cleanup(be_again))) const enum thread_state was = (enum thread_state)mpgc_self->state;
     become(BLOCKED);
     call->answer = call->function(call->data);
-    become(was);
     return true;
 }
 
@@ -375,10 +400,9 @@ void *GC_do_blocking(GC_fn_type function, void *data)
 void *GC_call_with_gc_active(GC_fn_type function, void *data)
 {
     if (!mpgc_self || mpgc_self->state != BLOCKED) return function(data);
+    __attribute__((cleanup(be_again))) const enum thread_state was = BLOCKED;
     become(RUNNING);
-    void *answer = function(data);
-    become(BLOCKED);
-    return answer;
+    return function(data);
 }
 
 bool mpgc_is_last_thread(void)
@@ -392,19 +416,7 @@ bool mpgc_is_last_thread(void)
 
 // ---- What they have ----
 
-// The lowest place of a stack that is there: where the thread was on it isn't known. What isn't mapped is left alone, since it would be from
-// then on; and a stack of the program's own may end with a page that can't be read.
-static const char *lowest(const char *low, const char *bottom)
-{
-    char *at = (char *)((uintptr_t)bottom & ~(PAGE - 1));
-    unsigned char answer;
-    int kept = errno;
-    while (at > low && mincore(at - PAGE, PAGE, &answer) == 0 && mpgc_can_be_read(at - WORD)) at -= PAGE;
-    errno = kept;
-    return at;
-}
-
-static void scan_stack(const struct thread *one, void (*scan)(const char *from, const char *to))
+static void scan_stack(struct thread *one, void (*scan)(const char *from, const char *to))
 {
     const char *top = one->top, *bottom = bottom_of(one);
     if (one->alt_top) {
@@ -412,14 +424,14 @@ static void scan_stack(const struct thread *one, void (*scan)(const char *from, 
         top = one->under ? one->under : lowest(one->low, bottom);
     }
     bool is_own = bottom == one->bottom && one->low;
-    if (top >= bottom || (is_own && top < one->low))
+    if (top >= bottom || (is_own && !is_on_own_stack(one, top)))
         mpgc_stop("a collection on another stack than the thread's own: see GC_set_stackbottom");
     scan(top, bottom);
 }
 
 void mpgc_scan_threads(void (*scan)(const char *from, const char *to), void (*push)(uint64_t word))
 {
-    for (const struct thread *one = mpgc.threads; one; one = one->next) {
+    for (struct thread *one = mpgc.threads; one; one = one->next) {
         push((uintptr_t)one->data);
         if (one->state == STARTING || one->state == ENDED) continue;
         mpgc_push_runs(one, push);
