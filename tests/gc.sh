@@ -70,7 +70,7 @@ if command -v clang >"$room/said"; then CC=clang build "$room/clang"; else skip 
 
 # Each function, each place of roots, and what stands round the barrier.
 for test in functions settings macros inline limits links frees pacing leaks unmapped finalizers kinds roots barrier crowded kernel signals handlers moments \
-    process shadow threads world loading registering stopping joining together collector marking stacks; do
+    process shadow threads world loading registering stopping waiting leaving joining together collector marking stacks; do
     "${c[@]}" "$top/tests/gc/$test.c" "-L$room" -lmpgc "-Wl,-rpath,$room" -pthread -o "$room/$test" 2>"$room/said"
     is "$test is built" "" "$(cat "$room/said")"
 done
@@ -88,7 +88,7 @@ counted "frees, beside the collector's thread" env GC_COLLECTOR_THREAD=1 "$room/
 counted pacing "$room/pacing"
 counted "pacing, in small steps" env GC_ENABLE_INCREMENTAL=1 "$room/pacing"
 counted leaks "$room/leaks"
-for test in inline unmapped finalizers kinds registering; do
+for test in inline unmapped finalizers kinds registering leaving waiting; do
     counted "$test" "$room/$test"
     counted "$test, in small steps" env INCREMENTAL=1 "$room/$test"
 done
@@ -146,7 +146,7 @@ else
     skip libc.a "programs that are linked statically"
 fi
 if [ -e /usr/include/gc/gc_mark.h ]; then
-    for test in functions settings macros inline links pacing leaks unmapped finalizers kinds registering stacks; do
+    for test in functions settings macros inline links pacing leaks unmapped finalizers kinds registering leaving stacks; do
         cc -std=c11 -O1 -w -DOTHER "$top/tests/gc/$test.c" -lgc -o "$room/${test}_bdw"
         counted "$test, over bdwgc" "$room/${test}_bdw"
     done
