@@ -383,7 +383,7 @@ static void be_again(const enum thread_state *was) { become(*was); }
 static bool call_blocked(void *data)
 {
     struct call *call = data;
-    __attribute__((cleanup(be_again))) const enum thread_state was = (enum thread_state)mpgc_self->state;
+    __attribute__((cleanup(be_again), unused)) const enum thread_state was = (enum thread_state)mpgc_self->state;
     become(BLOCKED);
     call->answer = call->function(call->data);
     return true;
@@ -400,7 +400,7 @@ void *GC_do_blocking(GC_fn_type function, void *data)
 void *GC_call_with_gc_active(GC_fn_type function, void *data)
 {
     if (!mpgc_self || mpgc_self->state != BLOCKED) return function(data);
-    __attribute__((cleanup(be_again))) const enum thread_state was = BLOCKED;
+    __attribute__((cleanup(be_again), unused)) const enum thread_state was = BLOCKED;
     become(RUNNING);
     return function(data);
 }
