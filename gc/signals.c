@@ -87,12 +87,15 @@ static void on_fault(int number, siginfo_t *info, void *context)
 }
 
 // To be called before pages are closed, under blocked signals: where the C library's calls aren't taken (kernel/handlers.c), the program may
-// have set its own handler.
+// have set its own handler. Under it the signal waits too by which the C library cancels threads: one that may be cancelled at any instruction
+// would go with the lock.
 void mpgc_take_faults(void)
 {
+    enum { CANCEL = 32 };
     struct sigaction ours = { .sa_sigaction = on_fault, .sa_flags = SA_SIGINFO | SA_ONSTACK | SA_RESTART }, old;
     sigfillset(&ours.sa_mask);
     sigdelset(&ours.sa_mask, SIGPWR);
+    ours.sa_mask.__val[0] |= (uint64_t)1 << (CANCEL - 1);
     if (__sigaction(SIGSEGV, &ours, &old) != 0) mpgc_stop("the kernel refused a handler of faults");
     bool is_ours = (old.sa_flags & SA_SIGINFO) && old.sa_sigaction == on_fault;
     mpgc_barrier_stands(is_ours ? NULL : &old);

@@ -1,10 +1,11 @@
-/* Functions that are left otherwise than by a return: one that GC_do_blocking has called, by a cancellation, and finalizers, by a jump. What
- * comes behind is as ever. Over bdwgc (OTHER) the finalizers alone. */
+/* Functions that are left otherwise than by a return: one that GC_do_blocking has called, and one that only writes, by a cancellation, and
+ * finalizers, by a jump. What comes behind is as ever. Over bdwgc (OTHER) the finalizers alone. */
 #define _GNU_SOURCE
 #define GC_THREADS
 #include <pthread.h>
 #include <setjmp.h>
 #include <stdatomic.h>
+#include <stdbool.h>
 #include <stdint.h>
 #include <stdlib.h>
 #include <time.h>
@@ -81,6 +82,42 @@ static void cancelled_while_blocked(void *is_nested)
     stage = 3;
     CHECK(pthread_join(thread, &answer) == 0 && answer == PTHREAD_CANCELED && was_right);
 }
+
+/* Threads that may be cancelled at any instruction, and only write into objects, while another thread makes steps. */
+enum { OBJECTS = 2000, OBJECT = 3000, WRITERS = 4, CANCELS = 400 };
+static void ***written;
+static void *write_for_ever(void *data)
+{
+    int old;
+    pthread_setcanceltype(PTHREAD_CANCEL_ASYNCHRONOUS, &old);
+    for (;;)
+        for (int k = 0; k < OBJECTS; k++) written[k][1] = written[k * 7 % OBJECTS];
+    return data;
+}
+static atomic_bool is_over;
+static void *make_steps(void *data)
+{
+    while (!is_over)
+        for (int k = 0; k < 300; k++) (void)GC_malloc(k % 2 ? 16 : 64 + (size_t)GC_collect_a_little());
+    return data;
+}
+static int is_cancelled_while_it_writes(void)
+{
+    pthread_t stepper, writers[WRITERS];
+    alarm(60);
+    GC_enable_incremental();
+    written = GC_malloc_uncollectable(OBJECTS * sizeof *written);
+    for (int k = 0; k < OBJECTS; k++) written[k] = GC_malloc(OBJECT);
+    pthread_create(&stepper, NULL, make_steps, NULL);
+    for (int k = 0; k < CANCELS; k += WRITERS) {
+        for (int j = 0; j < WRITERS; j++) pthread_create(&writers[j], NULL, write_for_ever, NULL);
+        rest(k % 7 + 1);
+        for (int j = 0; j < WRITERS; j++) pthread_cancel(writers[j]);
+        for (int j = 0; j < WRITERS; j++) pthread_join(writers[j], NULL);
+    }
+    is_over = true;
+    return pthread_join(stepper, NULL);
+}
 #endif
 
 static jmp_buf back;
@@ -130,6 +167,7 @@ int main(void)
 #ifndef OTHER
     cancelled_while_blocked(NULL);
     cancelled_while_blocked(&stage);
+    CHECK(status_of(is_cancelled_while_it_writes) == 0);
 #endif
     return check_ends();
 }
