@@ -123,6 +123,10 @@ is "an object that calls while it is loaded is built" "" "$(cat "$room/said")"
 for setting in GC_MARKERS=4 GC_COLLECTOR_THREAD=1; do
     counted "loading, $setting" env "$setting" "$room/loading" "$room/loaded_calling.so"
 done
+"${c[@]}" "$top/tests/gc/plugging.c" -pthread -o "$room/plugging" 2>"$room/said" &&
+    "${c[@]}" -shared -fPIC "$top/tests/gc/plugged.c" "-L$room" -lmpgc "-Wl,-rpath,$room" -o "$room/plugged.so" 2>"$room/said"
+is "a part that is linked with the library is built, and a program that isn't" "" "$(cat "$room/said")"
+counted "plugging" "$room/plugging" "$room/plugged.so"
 counted "stopping" "$room/stopping"
 counted "joining" "$room/joining"
 "${c[@]}" -no-pie "$top/tests/gc/process.c" "-L$room" -lmpgc "-Wl,-rpath,$room" -o "$room/fixed" 2>"$room/said"
@@ -150,6 +154,8 @@ if [ -e /usr/include/gc/gc_mark.h ]; then
         cc -std=c11 -O1 -w -DOTHER "$top/tests/gc/$test.c" -lgc -o "$room/${test}_bdw"
         counted "$test, over bdwgc" "$room/${test}_bdw"
     done
+    cc -std=c11 -O1 -w -DOTHER -shared -fPIC "$top/tests/gc/plugged.c" -lgc -o "$room/plugged_bdw.so"
+    counted "plugging, over bdwgc" "$room/plugging" "$room/plugged_bdw.so"
 else
     skip libgc-dev "the functions, settings, links, finalizers, kinds and threads over bdwgc"
 fi
