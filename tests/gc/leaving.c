@@ -83,6 +83,48 @@ static void cancelled_while_blocked(void *is_nested)
     CHECK(pthread_join(thread, &answer) == 0 && answer == PTHREAD_CANCELED && was_right);
 }
 
+/* Destructors of keys that set them again, as they may in all rounds but the last: what a key names is kept before each but that one's. The first
+ * key's destructor lets another thread collect, and ask for as much, before the second key's is called. */
+enum { ROUND = 3 };
+static pthread_key_t first_key, second_key;
+static int keys_round;
+static uintptr_t *make_numbers(int from)
+{
+    uintptr_t *made = GC_malloc(WORDS * sizeof *made);
+    for (uintptr_t k = 0; k < WORDS; k++) made[k] = k + (uintptr_t)from;
+    return made;
+}
+static void come_again(void *data)
+{
+    if (++keys_round == ROUND) come_to(2);
+    if (keys_round < ROUND) pthread_setspecific(first_key, data);
+}
+static void look_and_come_again(void *numbers)
+{
+    const uintptr_t *seen = numbers;
+    for (uintptr_t k = 0; k < WORDS; k++) was_right += seen[k] == k + (uintptr_t)keys_round;
+    if (keys_round < ROUND) pthread_setspecific(second_key, make_numbers(keys_round + 1));
+}
+static void *set_keys(void *data)
+{
+    pthread_setspecific(first_key, data);
+    pthread_setspecific(second_key, make_numbers(1));
+    return NULL;
+}
+static void destroyed_again_and_again(void)
+{
+    pthread_t thread;
+    stage = 0;
+    was_right = 0;
+    CHECK(pthread_key_create(&first_key, come_again) == 0 && pthread_key_create(&second_key, look_and_come_again) == 0);
+    pthread_create(&thread, NULL, set_keys, &stage);
+    while (stage != 2) rest(1);
+    for (int k = 0; k < 3; k++) GC_gcollect();
+    for (int k = 0; k < MANY; k++) memset(GC_malloc(WORDS * sizeof(uintptr_t)), 7, WORDS * sizeof(uintptr_t));
+    stage = 3;
+    CHECK(pthread_join(thread, NULL) == 0 && was_right == ROUND * WORDS);
+}
+
 /* Threads that may be cancelled at any instruction, and only write into objects, while another thread makes steps. */
 enum { OBJECTS = 2000, OBJECT = 3000, WRITERS = 4, CANCELS = 400 };
 static void ***written;
@@ -167,6 +209,7 @@ int main(void)
 #ifndef OTHER
     cancelled_while_blocked(NULL);
     cancelled_while_blocked(&stage);
+    destroyed_again_and_again();
     CHECK(status_of(is_cancelled_while_it_writes) == 0);
 #endif
     return check_ends();
