@@ -7,7 +7,6 @@
 #include <stdarg.h>
 #include <sys/epoll.h>
 #include <sys/ioctl.h>
-#include <sys/mman.h>
 #include <sys/random.h>
 #include <sys/resource.h>
 #include <sys/select.h>
@@ -213,11 +212,4 @@ SHOWN int ioctl(int file, unsigned long number, ...)
     va_end(rest);
     if (GC_is_heap_ptr(into)) mpgc_will_write(into, _IOC_SIZE(number) ? _IOC_SIZE(number) : PAGE);
     SAYS(next(file, number, into));
-}
-
-// Memory is locked as it is touched: the addresses of the largest heap would all take memory at once, and more than most machines have.
-SHOWN int mlockall(int flags)
-{
-    NEXT(int, mlockall, (int));
-    return next(flags & (MCL_CURRENT | MCL_FUTURE) ? flags | MCL_ONFAULT : flags);
 }

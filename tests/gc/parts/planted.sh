@@ -74,7 +74,7 @@ faults_are_noticed() {
     done
 }
 
-for file in syscalls syscalls_more syscalls_checked syscalls_threads; do
+for file in syscalls syscalls_more syscalls_others syscalls_checked syscalls_threads; do
     cc -std=c11 -O1 -fvisibility=hidden -c "$top/gc/kernel/$file.c" -o "$room/$file.o"
 done
 faults_are_noticed
