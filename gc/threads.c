@@ -130,8 +130,10 @@ static void be_threaded(void)
 // A thread that nobody told of.
 void mpgc_know_this(const struct GC_stack_base *base)
 {
-    struct thread *self = new_record();
+    sigset_t old;
     if (!mpgc.is_threaded) mpgc_stop("a thread that nobody told of calls in: call GC_allow_register_threads first");
+    mpgc_block_signals(&old);  // a handler that makes a request would have it known twice
+    struct thread *self = new_record();
     self->is_late = has_said_goodbye;
     find_this(self, base);
     self->id = pthread_self();
@@ -140,6 +142,7 @@ void mpgc_know_this(const struct GC_stack_base *base)
     self->is_detached = true;
     mpgc_unlock();
     (void)run_as(self);
+    mpgc_restore_signals(&old);
 }
 
 static void *begin(void *record)
@@ -153,20 +156,35 @@ static void *begin(void *record)
     return answer;
 }
 
+// What signals the attributes say that the thread blocks, if they do; and that they say all, or these again. The lock is held.
+static bool says_signals(const pthread_attr_t *attributes, sigset_t *signals)
+{
+    return attributes && pthread_attr_getsigmask_np(attributes, signals) == 0;
+}
+static void say_signals(const pthread_attr_t *attributes, const sigset_t *signals)
+{
+    if (pthread_attr_setsigmask_np((pthread_attr_t *)(uintptr_t)attributes, signals) != 0) mpgc_stop("the C library refused a thread's signals");
+}
+
 // No handler of the program runs on the new thread before that can be stopped: it might write while the world is. With the lock the thread isn't
 // known by a number before that is here. (Who waits for the lock can be stopped: so signals are blocked behind it.)
 static int create(struct thread *record, pthread_t *thread, const pthread_attr_t *attributes, void *data)
 {
-    sigset_t old;
+    sigset_t old, own, all;
     mpgc_lock();
     mpgc_block_signals(&old);
-    if (!attributes || pthread_attr_getsigmask_np(attributes, &record->signals) != 0) record->signals = old;
+    bool has_own = says_signals(attributes, &own);
+    sigfillset(&all);
+    sigdelset(&all, SIGSEGV);
+    if (has_own) say_signals(attributes, &all);
+    record->signals = has_own ? own : old;
     sigdelset(&record->signals, SIGSEGV);
     sigdelset(&record->signals, SIGPWR);
     link_record(record);
     record->data = data;  // not before, when the record is no root and this thread may be stopped
     int answer = mpgc_next_creator()(&record->id, attributes, begin, record);
     *thread = record->id;
+    if (has_own) say_signals(attributes, &own);
     if (answer != 0) unlink_record(record);
     mpgc_restore_signals(&old);
     mpgc_unlock();

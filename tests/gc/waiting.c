@@ -126,6 +126,37 @@ static int old_names_leave_two_out(void)
 #pragma GCC diagnostic pop
 }
 
+/* A signal waits for a thread that doesn't block it, as its attributes say: it is handled there once the thread is known, though the handler makes a
+ * request. The attributes are as they were. */
+static void *volatile made;
+static void make_one(int number) { made = GC_malloc((size_t)number); }
+static void *wait_for_it(void *data)
+{
+    while (!made || are_ready < 1) rest(1);
+    return data;
+}
+static int is_handled_first(void)
+{
+    sigset_t none, one, seen;
+    pthread_t thread;
+    pthread_attr_t attributes;
+    sigemptyset(&none);
+    sigemptyset(&one);
+    sigaddset(&one, SIGUSR1);
+    signal(SIGUSR1, make_one);
+    pthread_sigmask(SIG_BLOCK, &one, NULL);
+    pthread_attr_init(&attributes);
+    pthread_attr_setsigmask_np(&attributes, &none);
+    kill(getpid(), SIGUSR1);
+    if (pthread_create(&thread, &attributes, wait_for_it, NULL) != 0) return 1;
+    while (!made) rest(1);
+    for (int k = 0; k < 3; k++) GC_gcollect();
+    are_ready = 1;
+    if (pthread_join(thread, NULL) != 0) return 2;
+    if (pthread_attr_getsigmask_np(&attributes, &seen) != 0 || sigismember(&seen, SIGUSR1)) return 3;
+    return pthread_attr_destroy(&attributes);
+}
+
 /* Pages of addresses that the process has. */
 static long addresses(void)
 {
@@ -167,5 +198,6 @@ int main(void)
     CHECK(status_of(is_cancelled) == 0);
     CHECK(status_of(old_names_leave_two_out) == 0);
     CHECK(status_of(leaves_no_stacks) == 0);
+    CHECK(status_of(is_handled_first) == 0);
     return check_ends();
 }
