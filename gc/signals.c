@@ -97,7 +97,8 @@ static void on_fault(int number, siginfo_t *info, void *context)
 }
 
 // To be called before pages are closed, under blocked signals: where the C library's calls aren't taken (kernel/handlers.c), the program may
-// have set its own handler.
+// have set its own handler. Under it the signal waits too by which the C library cancels threads: one that may be cancelled at any instruction
+// would go with the lock.
 void mpgc_take_faults(void)
 {
     struct sigaction ours = { .sa_sigaction = on_fault, .sa_flags = SA_SIGINFO | SA_ONSTACK | SA_RESTART, .sa_mask = every_signal() }, old;

@@ -8,6 +8,7 @@
 // Counted under the rest.
 #include "layer.h"
 #include <stdlib.h>
+#include <sys/mman.h>
 
 struct layer mpgc;
 static bool is_open;
@@ -19,12 +20,22 @@ void mpgc_stop(const char *sentence)
     abort();
 }
 
-// As many pages as there may be, and half as many again where that is refused: a limit of the process, or a taken range. Answers them, or 0.
+// Whether the process may have half as many addresses besides: for what the program asks others for, and its threads' stacks.
+static bool leaves_some(size_t pages)
+{
+    size_t bytes = pages * PAGE / 2 * 3;
+    void *at = mmap(NULL, bytes, PROT_READ | PROT_WRITE, MAP_PRIVATE | MAP_ANONYMOUS | MAP_NORESERVE, -1, 0);
+    return at != MAP_FAILED && munmap(at, bytes) == 0;
+}
+
+// As many pages as there may be, and seven eighths of them again where that is refused: by a limit of the process, or since the range is taken.
+// Answers them, or 0.
 static size_t open_core(void)
 {
     enum { LEAST = 4096 };
     size_t pages = MAX_PAGES;
-    while (pages >= LEAST && mpheap_open_mapped_with((uint32_t)pages, pages * (PAGE / WORD), &mpgc.heap) != MPHEAP_OK) pages /= 2;
+    while (pages >= LEAST && !(leaves_some(pages) && mpheap_open_mapped_with((uint32_t)pages, pages * (PAGE / WORD), &mpgc.heap) == MPHEAP_OK))
+        pages = pages / 8 * 7 / BLOCK * BLOCK;
     return pages >= LEAST ? pages : 0;
 }
 

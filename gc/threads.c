@@ -15,6 +15,7 @@
 #include <errno.h>
 #include <stdlib.h>
 #include <sys/mman.h>
+#include <unistd.h>
 
 SHOWN int GC_pthread_create(pthread_t *thread, const pthread_attr_t *attributes, void *(*start)(void *), void *data);
 SHOWN _Noreturn void GC_pthread_exit(void *answer);
@@ -22,7 +23,7 @@ SHOWN _Noreturn void GC_pthread_exit(void *answer);
 _Thread_local struct thread *mpgc_self __attribute__((tls_model("initial-exec")));
 
 static pthread_key_t key;
-enum { LAST_ROUND = 3 };  // of destructors of keys, of which the C library makes 4
+enum { LAST_ROUND = 4 };  // of destructors of keys: the C library makes so many
 static _Thread_local bool has_said_goodbye __attribute__((tls_model("initial-exec")));
 
 // ---- Records ----
@@ -159,20 +160,35 @@ static void *begin(void *record)
     return answer;
 }
 
+// What signals the attributes say that the thread blocks, if they do; and that they say all, or these again. The lock is held.
+static bool says_signals(const pthread_attr_t *attributes, sigset_t *signals)
+{
+    return attributes && pthread_attr_getsigmask_np(attributes, signals) == 0;
+}
+static void say_signals(const pthread_attr_t *attributes, const sigset_t *signals)
+{
+    if (pthread_attr_setsigmask_np((pthread_attr_t *)(uintptr_t)attributes, signals) != 0) mpgc_stop("the C library refused a thread's signals");
+}
+
 // No handler of the program runs on the new thread before that can be stopped: it might write while the world is. With the lock the thread isn't
 // known by a number before that is here. (Who waits for the lock can be stopped: so signals are blocked behind it.)
 static int create(struct thread *record, pthread_t *thread, const pthread_attr_t *attributes, void *data)
 {
-    sigset_t old;
+    sigset_t old, own, all;
     mpgc_lock();
     mpgc_block_signals(&old);
-    if (!attributes || pthread_attr_getsigmask_np(attributes, &record->signals) != 0) record->signals = old;
+    bool has_own = says_signals(attributes, &own);
+    sigfillset(&all);
+    sigdelset(&all, SIGSEGV);
+    if (has_own) say_signals(attributes, &all);
+    record->signals = has_own ? own : old;
     sigdelset(&record->signals, SIGSEGV);
     sigdelset(&record->signals, SIGPWR);
     link_record(record);
     record->data = data;  // not before, when the record is no root and this thread may be stopped
     int answer = mpgc_next_creator()(&record->id, attributes, begin, record);
     *thread = record->id;
+    if (has_own) say_signals(attributes, &own);
     if (answer != 0) unlink_record(record);
     mpgc_restore_signals(&old);
     mpgc_unlock();
@@ -241,6 +257,7 @@ static void on_goodbye(void *record)
     sigset_t old;
     forget(self, &old);
     mpgc_drop_keys();
+    mpgc_drop_signals_stack();
 }
 
 void GC_pthread_exit(void *answer)
@@ -331,14 +348,35 @@ static char *bottom_of(const struct thread *thread)
     return thread == &mpgc.first ? GC_stackbottom : (char *)(uintptr_t)thread->bottom;
 }
 
+// The lowest place of a stack that is there: where the thread was on it isn't known. What isn't mapped is left alone, since it would be from
+// then on; and a stack of the program's own may end with a page that can't be read.
+static const char *lowest(const char *low, const char *bottom)
+{
+    char *at = (char *)((uintptr_t)bottom & ~(PAGE - 1));
+    unsigned char answer;
+    int kept = errno;
+    while (at > low && mincore(at - PAGE, PAGE, &answer) == 0 && mpgc_can_be_read(at - WORD)) at -= PAGE;
+    errno = kept;
+    return at;
+}
+
+// The process's first stack may have grown past where it might end when the thread was looked at, since the program has allowed it more: then all
+// is mapped that lies between.
+static bool is_on_own_stack(struct thread *one, const char *top)
+{
+    bool may_grow = top < one->low && one->number == (uint32_t)getpid();
+    if (may_grow && lowest(top, one->bottom) <= top) one->low = top;
+    return top >= one->low && top < one->bottom;
+}
+
 // A program of one thread that moves between stacks says so by that variable alone, a moment before it moves or behind it: so where the first
 // thread was stopped it is certain only on the stack that it began with.
 bool mpgc_first_is_at_home(void)
 {
-    const struct thread *first = &mpgc.first;
+    struct thread *first = &mpgc.first;
     const char *top = first->alt_top ? first->under : first->top;
     if (first == mpgc_self || first->state == ENDED) return true;
-    return GC_stackbottom == first->bottom && (!top || !first->low || (top >= first->low && top < first->bottom));
+    return GC_stackbottom == first->bottom && (!top || !first->low || is_on_own_stack(first, top));
 }
 
 void *mpgc_this_thread(void) { return mpgc_self; }
@@ -364,14 +402,16 @@ void GC_set_stackbottom(void *thread, const struct GC_stack_base *base)
 
 struct call { GC_fn_type function; void *data, *answer; };
 
+// Also where the function is left by an exception, or the thread is cancelled in it: what handles that may make requests.
+static void be_again(const enum thread_state *was) { become(*was); }
+
 // All that the thread has lies above what mpgc_from_here has saved, and isn't changed before the lock was taken.
 static bool call_blocked(void *data)
 {
     struct call *call = data;
-    enum thread_state was = (enum thread_state)mpgc_self->state;
+    __attribute__((cleanup(be_again), unused)) const enum thread_state was = (enum thread_state)mpgc_self->state;
     become(BLOCKED);
     call->answer = call->function(call->data);
-    become(was);
     return true;
 }
 
@@ -386,10 +426,9 @@ void *GC_do_blocking(GC_fn_type function, void *data)
 void *GC_call_with_gc_active(GC_fn_type function, void *data)
 {
     if (!mpgc_self || mpgc_self->state != BLOCKED) return function(data);
+    __attribute__((cleanup(be_again), unused)) const enum thread_state was = BLOCKED;
     become(RUNNING);
-    void *answer = function(data);
-    become(BLOCKED);
-    return answer;
+    return function(data);
 }
 
 bool mpgc_is_last_thread(void)
@@ -403,19 +442,7 @@ bool mpgc_is_last_thread(void)
 
 // ---- What they have ----
 
-// The lowest place of a stack that is there: where the thread was on it isn't known. What isn't mapped is left alone, since it would be from
-// then on; and a stack of the program's own may end with a page that can't be read.
-static const char *lowest(const char *low, const char *bottom)
-{
-    char *at = (char *)((uintptr_t)bottom & ~(PAGE - 1));
-    unsigned char answer;
-    int kept = errno;
-    while (at > low && mincore(at - PAGE, PAGE, &answer) == 0 && mpgc_can_be_read(at - WORD)) at -= PAGE;
-    errno = kept;
-    return at;
-}
-
-static void scan_stack(const struct thread *one, void (*scan)(const char *from, const char *to))
+static void scan_stack(struct thread *one, void (*scan)(const char *from, const char *to))
 {
     const char *top = one->top, *bottom = bottom_of(one);
     if (one->alt_top) {
@@ -423,14 +450,14 @@ static void scan_stack(const struct thread *one, void (*scan)(const char *from, 
         top = one->under ? one->under : lowest(one->low, bottom);
     }
     bool is_own = bottom == one->bottom && one->low;
-    if (top >= bottom || (is_own && top < one->low))
+    if (top >= bottom || (is_own && !is_on_own_stack(one, top)))
         mpgc_stop("a collection on another stack than the thread's own: see GC_set_stackbottom");
     scan(top, bottom);
 }
 
 void mpgc_scan_threads(void (*scan)(const char *from, const char *to), void (*push)(uint64_t word))
 {
-    for (const struct thread *one = mpgc.threads; one; one = one->next) {
+    for (struct thread *one = mpgc.threads; one; one = one->next) {
         push((uintptr_t)one->data);
         if (one->state == STARTING || one->state == ENDED) continue;
         mpgc_push_runs(one, push);

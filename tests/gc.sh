@@ -70,7 +70,7 @@ if command -v clang >"$room/said"; then CC=clang build "$room/clang"; else skip 
 
 # Each function, each place of roots, and what stands round the barrier.
 for test in functions settings macros inline limits links frees pacing leaks unmapped finalizers kinds roots barrier crowded kernel signals handlers moments \
-    process shadow threads world loading registering stopping joining together collector marking stacks; do
+    process shadow threads world loading registering stopping waiting leaving joining together collector marking stacks; do
     "${c[@]}" "$top/tests/gc/$test.c" "-L$room" -lmpgc "-Wl,-rpath,$room" -pthread -o "$room/$test" 2>"$room/said"
     is "$test is built" "" "$(cat "$room/said")"
 done
@@ -88,7 +88,7 @@ counted "frees, beside the collector's thread" env GC_COLLECTOR_THREAD=1 "$room/
 counted pacing "$room/pacing"
 counted "pacing, in small steps" env GC_ENABLE_INCREMENTAL=1 "$room/pacing"
 counted leaks "$room/leaks"
-for test in inline unmapped finalizers kinds registering; do
+for test in inline unmapped finalizers kinds registering leaving waiting; do
     counted "$test" "$room/$test"
     counted "$test, in small steps" env INCREMENTAL=1 "$room/$test"
 done
@@ -123,6 +123,10 @@ is "an object that calls while it is loaded is built" "" "$(cat "$room/said")"
 for setting in GC_MARKERS=4 GC_COLLECTOR_THREAD=1; do
     counted "loading, $setting" env "$setting" "$room/loading" "$room/loaded_calling.so"
 done
+"${c[@]}" "$top/tests/gc/plugging.c" -pthread -o "$room/plugging" 2>"$room/said" &&
+    "${c[@]}" -shared -fPIC "$top/tests/gc/plugged.c" "-L$room" -lmpgc "-Wl,-rpath,$room" -o "$room/plugged.so" 2>"$room/said"
+is "a part that is linked with the library is built, and a program that isn't" "" "$(cat "$room/said")"
+counted "plugging" "$room/plugging" "$room/plugged.so"
 counted "stopping" "$room/stopping"
 counted "joining" "$room/joining"
 "${c[@]}" -no-pie "$top/tests/gc/process.c" "-L$room" -lmpgc "-Wl,-rpath,$room" -o "$room/fixed" 2>"$room/said"
@@ -146,10 +150,12 @@ else
     skip libc.a "programs that are linked statically"
 fi
 if [ -e /usr/include/gc/gc_mark.h ]; then
-    for test in functions settings macros inline links pacing leaks unmapped finalizers kinds registering stacks; do
+    for test in functions settings macros inline links pacing leaks unmapped finalizers kinds registering leaving stacks; do
         cc -std=c11 -O1 -w -DOTHER "$top/tests/gc/$test.c" -lgc -o "$room/${test}_bdw"
         counted "$test, over bdwgc" "$room/${test}_bdw"
     done
+    cc -std=c11 -O1 -w -DOTHER -shared -fPIC "$top/tests/gc/plugged.c" -lgc -o "$room/plugged_bdw.so"
+    counted "plugging, over bdwgc" "$room/plugging" "$room/plugged_bdw.so"
 else
     skip libgc-dev "the functions, settings, links, finalizers, kinds and threads over bdwgc"
 fi

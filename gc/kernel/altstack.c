@@ -39,3 +39,13 @@ SHOWN int sigaltstack(const stack_t *restrict next, stack_t *restrict old)
     if (old && place && was.ss_sp == place) old->ss_sp = before.ss_sp;
     return 0;
 }
+
+// The thread ends, with signals blocked. A fault that comes still is handled on its own stack; where it is on that place, this stays.
+void mpgc_drop_signals_stack(void)
+{
+    static const stack_t none = { .ss_flags = SS_DISABLE };
+    if (!place || syscall(SYS_sigaltstack, &none, NULL) != 0) return;
+    munmap(place, bytes);
+    place = NULL;
+    bytes = 0;
+}

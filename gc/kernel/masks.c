@@ -1,9 +1,10 @@
 // The C library's calls by which a program blocks signals, without SIGSEGV and SIGPWR: a write to a closed page while faults are blocked
 // would end the program, since the kernel can't hold back such a fault; and by the other one threads are stopped. Of other signals nothing
-// is different.
+// is different. Those by which it waits for signals leave the second out as well, which would be handed to it in place of its handler.
 #include "../front.h"
 #include <errno.h>
 #include <pthread.h>
+#include <sys/signalfd.h>
 #include <sys/syscall.h>
 #include <unistd.h>
 
@@ -20,9 +21,10 @@ const sigset_t *mpgc_without_faults(const sigset_t *signals, sigset_t *room)
     return room;
 }
 
-// Who waits for a signal would take it from its handler: so these are waited for, but that by which threads are stopped, once there are some.
-const sigset_t *mpgc_without_stops(const sigset_t *signals, sigset_t *room)
+// So these are waited for, but that by which threads are stopped, once there are some.
+static const sigset_t *without_stops(const sigset_t *signals, sigset_t *room)
 {
+    if (!signals) return NULL;
     *room = *signals;
     if (mpgc_is_threaded()) sigdelset(room, SIGPWR);
     return room;
@@ -44,13 +46,60 @@ SHOWN int pthread_sigmask(int how, const sigset_t *restrict next, sigset_t *rest
     return answer;
 }
 
-// A thread may be cancelled in it, as in the C library's, which does it so too.
+// The old names, for the first 32 signals.
+static int change_lowest(int how, int signals)
+{
+    sigset_t next = { { (unsigned)signals } }, old;
+    return sigprocmask(how, &next, &old) == 0 ? (int)old.__val[0] : -1;
+}
+SHOWN int sigblock(int signals) { return change_lowest(SIG_BLOCK, signals); }
+SHOWN int sigsetmask(int signals) { return change_lowest(SIG_SETMASK, signals); }
+
+// A call by which this thread waits, and may be cancelled, as by the C library's.
+#define WAITS(answer, call) do { \
+        int type_; \
+        pthread_setcanceltype(PTHREAD_CANCEL_ASYNCHRONOUS, &type_); \
+        (answer) = (int)(call); \
+        pthread_setcanceltype(type_, &type_); \
+    } while (0)
+
 SHOWN int sigsuspend(const sigset_t *signals)
 {
     sigset_t room;
-    int type;
-    (void)pthread_setcanceltype(PTHREAD_CANCEL_ASYNCHRONOUS, &type);
-    long answer = syscall(SYS_rt_sigsuspend, mpgc_without_faults(signals, &room), BYTES);
-    (void)pthread_setcanceltype(type, &(int){ 0 });
-    return (int)answer;
+    const sigset_t *blocked = mpgc_without_faults(signals, &room);
+    int answer;
+    WAITS(answer, syscall(SYS_rt_sigsuspend, blocked, BYTES));
+    return answer;
+}
+
+// What a thread was sent by the kernel's other call for it counts as sent by a user, as the C library has it.
+SHOWN int sigtimedwait(const sigset_t *restrict signals, siginfo_t *restrict into, const struct timespec *restrict timeout)
+{
+    sigset_t room;
+    const sigset_t *wanted = without_stops(signals, &room);
+    int number;
+    mpgc_will_write(into, sizeof *into);
+    WAITS(number, syscall(SYS_rt_sigtimedwait, wanted, into, timeout, BYTES));
+    if (number != -1 && into && into->si_code == SI_TKILL) into->si_code = SI_USER;
+    mpgc_wrote();
+    return number;
+}
+
+SHOWN int sigwaitinfo(const sigset_t *restrict signals, siginfo_t *restrict into) { return sigtimedwait(signals, into, NULL); }
+
+SHOWN int sigwait(const sigset_t *restrict signals, int *restrict into)
+{
+    int number, kept = errno, status;
+    while ((number = sigtimedwait(signals, NULL, NULL)) == -1 && errno == EINTR) continue;
+    status = errno;
+    errno = kept;
+    if (number == -1) return status;
+    *into = number;
+    return 0;
+}
+
+SHOWN int signalfd(int file, const sigset_t *signals, int flags)
+{
+    sigset_t room;
+    return (int)syscall(SYS_signalfd4, file, mpgc_without_faults(signals, &room), BYTES, flags);
 }

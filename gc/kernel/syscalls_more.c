@@ -199,21 +199,8 @@ SHOWN void arc4random_buf(void *into, size_t bytes)
     mpgc_wrote();
 }
 
-// Signals that came.
+// Signals that came: those that are waited for are in masks.c.
 OPENS(int, sigpending, (sigset_t *into), (into), into, sizeof *into)
-
-#define WAITS_FOR_SIGNALS(name, words, into, values) \
-    SHOWN int name words \
-    { \
-        NEXT(int, name, words); \
-        sigset_t room; \
-        mpgc_will_write(into, sizeof *into); \
-        SAYS(next values); \
-    }
-WAITS_FOR_SIGNALS(sigwait, (const sigset_t *restrict signals, int *restrict into), into, (mpgc_without_stops(signals, &room), into))
-WAITS_FOR_SIGNALS(sigwaitinfo, (const sigset_t *restrict signals, siginfo_t *restrict into), into, (mpgc_without_stops(signals, &room), into))
-WAITS_FOR_SIGNALS(sigtimedwait, (const sigset_t *restrict signals, siginfo_t *restrict into, const struct timespec *restrict timeout), into,
-                  (mpgc_without_stops(signals, &room), into, timeout))
 
 // What a device writes is as long as its number says, where that says it, and else no more than a page, behind the pointer.
 SHOWN int ioctl(int file, unsigned long number, ...)

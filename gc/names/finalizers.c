@@ -219,16 +219,28 @@ int GC_invoke_finalizers(void)
     }
 }
 
-// Where this thread's finalizers are called, if it is there that it calls them.
+// Where this thread's finalizers are called, if it is there that it calls them; and so often one was in the way of others since.
 static _Thread_local char *calling_at __attribute__((tls_model("initial-exec")));
+static _Thread_local unsigned in_the_way __attribute__((tls_model("initial-exec")));
 static _Thread_local GC_word told_at __attribute__((tls_model("initial-exec")));
 
-// After a request or a collection. A finalizer that makes requests doesn't call others; one that was jumped out of isn't running.
+// A finalizer that makes requests doesn't call others, at first. But it may have been jumped out of, or never end, so that others are called at last,
+// as by bdwgc. One was jumped out of in any case where the stack goes no further than there.
+static bool is_one_in_the_way(const char *here)
+{
+    enum { PATIENCE = 1000 };
+    if (!calling_at || here >= calling_at) return false;
+    if (++in_the_way < PATIENCE) return true;
+    in_the_way = 0;
+    return false;
+}
+
+// After a request or a collection.
 void mpgc_tell_ready(void)
 {
+    char here;
     mpgc_tell_leaks();
-    char here, *outer = calling_at;
-    if (ready_count == 0 || mpgc_has_lock() || (outer && &here < outer)) return;
+    if (ready_count == 0 || mpgc_has_lock() || is_one_in_the_way(&here)) return;
     if (!GC_finalize_on_demand) {
         calling_at = &here;
         (void)GC_invoke_finalizers();

@@ -3,9 +3,11 @@
 #include <gc_cpp.h>
 #include <gc/gc_allocator.h>
 #include <gc/gc_mark.h>
+#include <atomic>
 #include <list>
 #include <map>
 #include <stdexcept>
+#include <thread>
 #include <vector>
 #include "check.h"
 
@@ -204,6 +206,57 @@ static void plain()
     CHECK(GC_base(&numbers[0]) != 0 && numbers[99999] == 99999);
 }
 
+#ifndef OTHER
+// A function that blocks is left by an exception: what is made behind it is kept, while another thread collects. Far below where it was blocked.
+static std::atomic<int> stage;
+static void *throw_one(void *) { throw std::runtime_error("left"); }
+static void *throw_deeper(void *)
+{
+    try {
+        GC_call_with_gc_active(throw_one, 0);
+    } catch (const std::runtime_error &) {
+        GC_call_with_gc_active(throw_one, 0);
+    }
+    return 0;
+}
+__attribute__((noinline)) static bool keeps_what_it_makes()
+{
+    enum { WORDS = 4, FAR = 60000, MANY = 20000 };
+    volatile char frame[FAR];
+    frame[0] = 1;
+    unsigned long *volatile made = static_cast<unsigned long *>(GC_MALLOC(WORDS * sizeof *made));
+    for (unsigned long k = 0; k < WORDS; k++) made[k] = k + 12345;
+    stage++;
+    while (stage % 2) std::this_thread::yield();
+    for (int k = 0; k < MANY; k++) memset(GC_MALLOC(WORDS * sizeof *made), 7, WORDS * sizeof *made);
+    bool is_right = frame[0] == 1;
+    for (unsigned long k = 0; k < WORDS; k++) is_right &= made[k] == k + 12345;
+    return is_right;
+}
+static void left_while_blocked()
+{
+    int right = 0;
+    std::thread one([&right] {
+        for (GC_fn_type function : { throw_one, throw_deeper }) {
+            try {
+                GC_do_blocking(function, 0);
+            } catch (const std::runtime_error &) {
+                right += keeps_what_it_makes();
+            }
+        }
+    });
+    for (int k = 0; k < 2; k++) {
+        while (stage % 2 == 0) std::this_thread::yield();
+        for (int j = 0; j < 3; j++) GC_gcollect();
+        stage++;
+    }
+    one.join();
+    CHECK(right == 2);
+}
+#else
+static void left_while_blocked() {}
+#endif
+
 static int full()
 {
     GC_set_max_heap_size(4 << 20);
@@ -228,6 +281,7 @@ int main()
     placements();
     allocators();
     plain();
+    left_while_blocked();
     CHECK(status_of(full) == 3);
     return check_ends();
 }

@@ -5,11 +5,15 @@
 #include <arpa/inet.h>
 #include <fcntl.h>
 #include <netinet/in.h>
+#include <dirent.h>
 #include <poll.h>
+#include <pthread.h>
 #include <sched.h>
 #include <signal.h>
 #include <sys/epoll.h>
+#include <sys/eventfd.h>
 #include <sys/ioctl.h>
+#include <sys/msg.h>
 #include <sys/random.h>
 #include <sys/resource.h>
 #include <sys/select.h>
@@ -296,9 +300,39 @@ static void of_the_system(void)
     sigprocmask(SIG_SETMASK, &old, NULL);
 }
 
+static void of_threads_and_queues(void)
+{
+    int events = eventfd(5, 0), queue = msgget(IPC_PRIVATE, 0600 | IPC_CREAT), root = open("/", O_RDONLY | O_DIRECTORY);
+    eventfd_t *count = place(88);
+    CHECK(eventfd_read(events, count) == 0 && *count == 5);
+    struct { long kind; char text[8]; } message = { 1, "a text" }, *came = place(92);
+    CHECK(queue < 0 || (msgsnd(queue, &message, 8, 0) == 0 && msgrcv(queue, came, 8, 0, 0) == 8 && strcmp(came->text, "a text") == 0));
+    msgctl(queue, IPC_RMID, NULL);
+    struct dirent64 *entry = place(96);
+    CHECK(getdents64(root, entry, 1000) > 0 && entry->d_reclen > 0);
+    cpu_set_t *processors = place(104);
+    struct sched_param *parameters = place(108);
+    CHECK(pthread_getname_np(pthread_self(), closed(100), 16) == 0 && closed(100)[0] != 0);
+    CHECK(pthread_getaffinity_np(pthread_self(), sizeof *processors, processors) == 0 && CPU_COUNT(processors) > 0);
+    CHECK(sched_getparam(0, parameters) == 0);
+    struct rlimit *limit = place(112);
+    CHECK(prlimit(0, RLIMIT_NOFILE, NULL, limit) == 0 && limit->rlim_cur > 0);
+    uid_t *real = place(116), *effective = place(120);
+    gid_t *of_group = place(128);
+    *real = 77;
+    CHECK(getresuid(real, effective, place(124)) == 0 && *real == getuid() && *effective == geteuid());
+    CHECK(getresgid(of_group, place(132), place(136)) == 0 && *of_group == getgid());
+    struct f_owner_ex *owner = place(140);
+    CHECK(fcntl(events, F_GETOWN_EX, owner) == 0 && owner->pid == 0);
+    CHECK(fcntl(root, F_GETFD) == 0 && fcntl(root, F_SETFD, FD_CLOEXEC) == 0 && fcntl(root, F_GETFD) == FD_CLOEXEC);
+    close(events);
+    close(root);
+}
+
 static void more_system_calls(void)
 {
     begin();
+    of_threads_and_queues();
     of_files_again();
     of_clocks();
     of_the_system();

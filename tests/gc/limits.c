@@ -5,9 +5,11 @@
 #define GC_OOM_FUNC_RETURNS_ALIAS
 #include <errno.h>
 #include <pthread.h>
+#include <sched.h>
 #include <setjmp.h>
 #include <stdbool.h>
 #include <stdint.h>
+#include <sys/mman.h>
 #include <sys/resource.h>
 #define GC_REQUIRE_WCSDUP
 #include "gc.h"
@@ -169,6 +171,29 @@ static int in_little_space(void)
     return p && GC_size(p) >= 10 * MEGABYTE ? 0 : 2;
 }
 
+/* Not all of them are the heap's: there is room for what the program asks others for, and its threads. */
+static int leaves_some_space(void)
+{
+    const rlim_t bytes = 1200 * (rlim_t)MEGABYTE;
+    if (setrlimit(RLIMIT_AS, &(struct rlimit){ bytes, bytes }) != 0) return 1;
+    if (!GC_malloc_atomic(500 * MEGABYTE)) return 2;
+    return mmap(NULL, bytes / 4, PROT_READ, MAP_PRIVATE | MAP_ANONYMOUS, -1, 0) != MAP_FAILED ? 0 : 3;
+}
+
+/* All memory is locked, where that is allowed: not that of the largest heap at once. */
+static int locks_what_it_touches(void)
+{
+    const rlim_t bytes = 1200 * (rlim_t)MEGABYTE;
+    if (setrlimit(RLIMIT_AS, &(struct rlimit){ bytes, bytes }) != 0) return 1;
+    char *p = GC_malloc(MEGABYTE);
+    if (!p || mlockall(MCL_CURRENT | MCL_FUTURE) != 0) return 0;
+    memset(p, 1, MEGABYTE);
+    long all = 0, resident = 0;
+    FILE *file = fopen("/proc/self/statm", "r");
+    if (file && fscanf(file, "%ld %ld", &all, &resident) != 2) return 2;
+    return resident < 200 * (long)(MEGABYTE / 4096) ? 0 : 3;
+}
+
 /* A heap without a limit of the program's, however that is said. */
 static int takes_two_megabytes(void)
 {
@@ -318,6 +343,43 @@ static int stack_may_grow(void)
     return recurse(4000);
 }
 
+/* .. while another thread collects, and the deepest frame alone names an object. */
+static _Atomic int is_deep;
+static void *collect_when_deep(void *data)
+{
+    while (!is_deep) sched_yield();
+    for (int k = 0; k < 3; k++) GC_gcollect();
+    is_deep = 0;
+    return data;
+}
+static int recurse_beside(int depth)
+{
+    volatile char frame[1000];
+    frame[0] = 0;
+    if (depth > 0) return recurse_beside(depth - 1) + frame[0];
+    char *volatile made = GC_malloc(16);
+    made[0] = 9;
+    is_deep = 1;
+    while (is_deep) sched_yield();
+    for (int k = 0; k < 20000; k++) memset(GC_malloc(16), 7, 16);
+    return made[0] == 9 ? 0 : 1;
+}
+static int stack_may_grow_beside_others(void)
+{
+    struct rlimit limit;
+    pthread_t thread;
+    getrlimit(RLIMIT_STACK, &limit);
+    rlim_t most = limit.rlim_max;
+    limit.rlim_cur = 1 << 20;
+    setrlimit(RLIMIT_STACK, &limit);
+    GC_INIT();
+    limit.rlim_cur = most == RLIM_INFINITY || most > 8 << 20 ? 8 << 20 : most;
+    setrlimit(RLIMIT_STACK, &limit);
+    if (pthread_create(&thread, NULL, collect_when_deep, NULL) != 0) return 2;
+    int status = recurse_beside(4000);
+    return pthread_join(thread, NULL) == 0 ? status : 3;
+}
+
 /* Of objects that one array names, far more than the core's mark stack has entries. Between two collections a third of twice what lives is
  * asked for, by the usual divisor, so there are as many at most, whether the program writes to all of them or not. */
 static int collections_by_what_lives(bool writes)
@@ -359,6 +421,8 @@ int main(void)
     CHECK(status_of(warns_each_time) == 0);
     CHECK(status_of(large_requests) == 0);
     CHECK(status_of(in_little_space) == 0);
+    CHECK(status_of(leaves_some_space) == 0);
+    CHECK(status_of(locks_what_it_touches) == 0);
     CHECK(status_of(has_no_limit) == 0);
     CHECK(status_of(has_no_limit_either) == 0);
     check_no_sizes();
@@ -371,6 +435,7 @@ int main(void)
     CHECK(status_of(is_off_by_itself) == 0);
     CHECK(status_of(pages_are_objects) == 0);
     CHECK(status_of(stack_may_grow) == 0);
+    CHECK(status_of(stack_may_grow_beside_others) == 0);
     CHECK(status_of(is_paced_by_all_that_lives) == 0);
     CHECK(status_of(is_paced_in_steps_too) == 0);
     CHECK(status_of(is_paced_beside_writes) == 0);

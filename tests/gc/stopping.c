@@ -624,68 +624,6 @@ static int is_stopped_itself(void)
     return pthread_join(thread, NULL);
 }
 
-/* A thread waits for every signal, and takes those of the program, but not that by which it is stopped. */
-enum { WAYS = 3 };
-static int take_one(const sigset_t *every, int way)
-{
-    siginfo_t info;
-    int came = 0;
-    if (way == 0) return sigwait(every, &came) == 0 ? came : -1;
-    return way == 1 ? sigwaitinfo(every, &info) : sigtimedwait(every, &info, &(struct timespec){ 60, 0 });
-}
-static void *take_signals(void *data)
-{
-    sigset_t every;
-    sigfillset(&every);
-    for (int way = 0; way < WAYS; way++) {
-        int came;
-        stage = way + 1;
-        while ((came = take_one(&every, way)) == -1) continue;
-        if (came != SIGUSR1) return (void *)(uintptr_t)1;
-    }
-    return data;
-}
-static int takes_signals(void)
-{
-    sigset_t every;
-    pthread_t thread;
-    void *answer;
-    alarm(60);
-    sigfillset(&every);
-    pthread_sigmask(SIG_BLOCK, &every, NULL);
-    stage = 0;
-    pthread_create(&thread, NULL, take_signals, NULL);
-    for (int way = 0; way < WAYS; way++) {
-        while (stage == way) sched_yield();
-        rest(0.02);
-        for (int k = 0; k < 3; k++) GC_gcollect();
-        pthread_kill(thread, SIGUSR1);
-    }
-    return pthread_join(thread, &answer) != 0 || answer;
-}
-
-/* A thread that waits for a handler is cancelled. */
-static void *wait_for_handlers(void *data)
-{
-    sigset_t none;
-    sigemptyset(&none);
-    for (stage = 1;;) sigsuspend(&none);
-    return data;
-}
-static int cancelled_while_it_waits(void)
-{
-    pthread_t thread;
-    void *answer = NULL;
-    alarm(60);
-    stage = 0;
-    pthread_create(&thread, NULL, wait_for_handlers, NULL);
-    while (stage == 0) sched_yield();
-    rest(0.02);
-    GC_gcollect();
-    pthread_cancel(thread);
-    return pthread_join(thread, &answer) != 0 || answer != PTHREAD_CANCELED;
-}
-
 static pid_t begin_in_child(int (*body)(void))
 {
     pid_t child = fork();
@@ -713,8 +651,6 @@ int main(void)
     CHECK(status_of(made_blocked) == 0);
     CHECK(status_of(writes_to_one_word) == 0);
     CHECK(status_of(protects_itself) == 0);
-    CHECK(status_of(takes_signals) == 0);
-    CHECK(status_of(cancelled_while_it_waits) == 0);
     cancelled();
     destroyed_late();
     CHECK(status_of(first_is_destroyed_late) == 0);

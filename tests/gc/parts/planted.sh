@@ -32,7 +32,7 @@ planted() {
         echo "its text doesn't stand once"
         return
     fi
-    cc -std=c11 -O1 -w "${flags[@]}" -fvisibility=hidden "-I$top/include/mpgc" "-I$include" "-I$top/gc" "-I$top/gc/names" \
+    cc -std=c11 -O1 -w -fexceptions "${flags[@]}" -fvisibility=hidden "-I$top/include/mpgc" "-I$include" "-I$top/gc" "-I$top/gc/names" \
         "$room/$name.c" "$top/tests/gc/$test.c" "$parts"/syscalls*.o "$room/$over/libmpgc.a" -pthread -o "$room/planted_$name" 2>&1 || return
     while
         { timeout -k 10 1500 env "TSAN_OPTIONS=die_after_fork=0 halt_on_error=1" "${setting[@]:1}" "$room/planted_$name" "${words[@]}" >"$room/said_$name" 2>&1; } 2>>"$room/said_$name"
@@ -74,7 +74,7 @@ faults_are_noticed() {
     done
 }
 
-for file in syscalls syscalls_more syscalls_checked syscalls_threads; do
+for file in syscalls syscalls_more syscalls_others syscalls_checked syscalls_threads; do
     cc -std=c11 -O1 -fvisibility=hidden -c "$top/gc/kernel/$file.c" -o "$room/$file.o"
 done
 faults_are_noticed
