@@ -11,6 +11,5 @@ mod object;
 pub mod quiet;
 mod ranges;
 
-pub use heap::many::Request;
 pub use heap::shares::{NotLent, Shares};
 pub use heap::{Core, Limits};

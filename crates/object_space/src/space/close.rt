@@ -9,7 +9,7 @@ ghost use Rattle.marker.specs.Marking.{AreMarksObjects, IsDone};
 ghost use Rattle.marker.specs.Work.{dirty_pages, newly_pages, entry_words};
 
 use super::ObjectSpace;
-use final_pause::{Gate, Graph, Helpers, close_marks, close_marks_with};
+use final_pause::{Gate, Helpers, close_marks, close_marks_with};
 use marker::Marker;
 use pages::{Count, Reader};
 use std::alloc::Global;
@@ -59,11 +59,15 @@ impl ObjectSpace {
         ensures lawful { IsLawful self.now.states }
     {
         self.table.map.laws();
-        let graph = Graph {
-            map: &self.table.map,
-            memory: &self.memory,
+        close_marks_with(
+            rt,
+            alloc,
+            marker,
+            &self.table.map,
+            &self.memory,
             roots,
-        };
-        close_marks_with(rt, alloc, marker, graph, helpers, gate);
+            helpers,
+            gate,
+        );
     }
 }
