@@ -7,7 +7,7 @@ ghost use Rattle.replayer.specs.Replays.{IsReplayed, IsNoReplay};
 use crate::flags::{age_all, flag_begin, flag_partial, forget};
 use crate::hint::Hint;
 use crate::replayer::Replayer;
-use crate::replies::{count_in, forgotten, is_done, is_needs_full, is_wrong_phase};
+use crate::said::{count_in, forgotten, is_done, is_needs_full, is_wrong_phase};
 use heap_spec::{Event, Reply};
 
 impl Replayer {

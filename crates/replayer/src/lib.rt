@@ -18,8 +18,8 @@ mod hint;
 pub mod laws;
 mod looking;
 mod replayer;
-mod replies;
 mod request;
+mod said;
 
 pub use hint::Hint;
 pub use replayer::Replayer;
