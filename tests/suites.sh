@@ -1,15 +1,17 @@
 #!/usr/bin/env bash
 # tests/suites.sh [NAME..]
 #
-# Test-suites of programs of Debian that use libgc, of their sources, by the programs as they are installed: nix's tests of its language,
-# w3m's, ecl's; over libgc, and over libmpgc by LD_PRELOAD in full collections, in small steps, and with the collector's own thread. It prints
-# a table:
+# Test-suites of programs of Debian that use libgc, of their sources, by the programs as they are installed, over libgc, and over libmpgc by
+# LD_PRELOAD in full collections, in small steps, and with the collector's own thread. tests/suites/judged.sh has those whose tests say
+# themselves whether they fail (and crystal.sh those of crystal), tests/suites/compared.sh those whose tests say or write something, which has to be what they do over libgc.
+# It prints a table:
 #
-#     | SUITE | tests | fail over libgc | full | steps | thread |
+#     | SUITE | VERSION of the source | tests | fail over libgc | full | steps | thread | collections, of libgc and of these |
 #
-# where the last three say which tests fail that don't over libgc, or `none`. Its last line is `N same, M not, K left out`. The sources are
-# those in the folder SOURCES, unpacked, or else come by apt-get source, which needs a deb-src line. MPHEAP_ARCHIVE and MPHEAP_INCLUDE are
-# those of gc/build; MODES are the three unless they are set, and KEEP is a folder for what was said.
+# where full, steps and thread say which tests fail that don't over libgc, or `none`. Its last line is `N same, M not, K left out`. The sources
+# are kept in the folder SOURCES, if it is set, each in a folder of its package's name; what isn't there comes by apt-get source, which needs a
+# deb-src line: of the first version that is to be had. MPHEAP_ARCHIVE and MPHEAP_INCLUDE are those of gc/build; MODES are the three, and
+# SECONDS_EACH, for one command, 900, unless they are set; KEEP is a folder for what was said.
 set -uo pipefail
 top=$(dirname "$(dirname "$(readlink -f "${BASH_SOURCE[0]}")")")
 room=$(mktemp -d)
@@ -19,64 +21,50 @@ export LC_ALL=C.UTF-8 HOME=$room/home
 read -ra modes <<<"${MODES:-full steps thread}"
 preload=$room/lib/libmpgc.so
 
-# Each suite runs in a copy of its tests, and leaves in TO.failing the names of those that fail, and in TO.count how many there are.
 # over MODE DIVISOR COMMAND..: the command over libgc, if MODE is none, or over libmpgc.
 over() {
-    local mode=$1 settings=("GC_FREE_SPACE_DIVISOR=$2" "LD_PRELOAD=$preload")
-    shift 2
-    case $mode in
-        none) settings=() ;;
-        steps) settings+=(GC_ENABLE_INCREMENTAL=1) ;;
-        thread) settings+=(GC_COLLECTOR_THREAD=1) ;;
+    local settings=("GC_FREE_SPACE_DIVISOR=$2" GC_PRINT_STATS=1)
+    case $1 in
+        none) settings+=("GC_LOG_FILE=$room/log") ;;
+        steps) settings+=("LD_PRELOAD=$preload" GC_ENABLE_INCREMENTAL=1) ;;
+        thread) settings+=("LD_PRELOAD=$preload" GC_COLLECTOR_THREAD=1) ;;
+        *) settings+=("LD_PRELOAD=$preload") ;;
     esac
-    timeout -s KILL "${SECONDS_EACH:-900}" env "${settings[@]}" "$@"
+    timeout -s KILL "${SECONDS_EACH:-900}" env "${settings[@]}" "${@:3}"
 }
 
-nix_suite() {
-    cp -r "$2/tests/." .
-    : >common.sh
-    over "$3" 300 bash lang.sh >"$1.said" 2>&1
-    grep -a '^FAIL: ' "$1.said" | awk '{ print $2 }' >"$1.failing"
-    grep -ac '^parsing \|^evaluating ' "$1.said" >"$1.count"
-}
-
-w3m_suite() {
-    local test options
-    cp -r "$2/tests/." .
-    for test in *.html; do
-        options=()
-        [ ! -e "${test%.html}.opts" ] || mapfile -t options < <(grep -v '^#' "${test%.html}.opts")
-        over "$3" 300 w3m -config /dev/null -o ignore_null_img_alt=false -I utf-8 -O utf-8 -T text/html "${options[@]}" <"$test" 2>&1 |
-            cmp -s - "${test%.html}.expected" || echo "$test"
-    done >"$1.failing"
-    find . -name '*.html' | wc -l >"$1.count"
-    cp "$1.failing" "$1.said"
-}
-
-ecl_suite() {
-    cp -r "$2/src/tests/." .
-    sed "s,@true_srcdir@,$2/src,; s,@builddir@,$PWD,; s,@prefix@,/usr," config.lsp.in >config.lsp
-    over "$3" 30 ecl -norc -load doit.lsp -eval "(2am-ecl:run 'cl-test::make-check)" -eval '(ext:quit)' </dev/null >"$1.said" 2>&1
-    sed -n '/^Failure details/,$p' "$1.said" | sed -n 's/^ \([A-Z][^ ]*\):$/\1/p' | sort >"$1.failing"
-    sed -n 's/^Did \([0-9]*\) tests.*/\1/p' "$1.said" >"$1.count"
-}
+for part in "$top"/tests/suites/*.sh; do
+    # shellcheck source=/dev/null
+    . "$part"
+done
 
 # source_of PACKAGE: the folder of its source, if it is to be had.
 source_of() {
-    local folder=${SOURCES:-$room/sources}
-    if [ -z "${SOURCES:-}" ]; then
+    local folder=${SOURCES:-$room/sources}/$1 version
+    if [ ! -d "$folder" ]; then
+        mkdir -p "$room/got"
+        for version in $(apt-cache showsrc "$1" 2>"$room/said" | sed -n 's/^Version: //p'); do
+            (cd "$room/got" && apt-get source -q --download-only "$1=$version") >"$room/said" 2>&1
+            [ -z "$(tarball "$1")" ] || break
+        done
+        [ -n "$(tarball "$1")" ] || return
         mkdir -p "$folder"
-        (cd "$folder" && apt-get source -q --download-only "$1" && tar xf "$1"_*.orig.tar.*) >"$room/said" 2>&1
+        tar xf "$(tarball "$1")" -C "$folder"
+        basename "$(tarball "$1")" | sed 's/^[^_]*_//; s/[.]orig[.]tar.*//' >"$folder/version"
     fi
-    find "$folder" -maxdepth 1 -type d -name "$1-*" | head -n 1
+    if [ "$(find "$folder" -mindepth 1 -maxdepth 1 -type d | wc -l)" = 1 ]; then find "$folder" -mindepth 1 -maxdepth 1 -type d; else echo "$folder"; fi
 }
+tarball() { find "$room/got" -name "$1_*.orig.tar.*" ! -name '*.asc'; }
 
 # run_suite NAME SOURCE MODE: in a folder of its own.
 run_suite() {
-    rm -rf "$room/run" "$HOME"
+    rm -rf "$room/run" "$HOME" "$room/log"
     mkdir -p "$room/run" "$HOME"
-    (cd "$room/run" && "$1_suite" "$room/$1.$3" "$2" "$3")
-    [ -z "${KEEP:-}" ] || cp "$room/$1.$3".* "$KEEP"
+    : >"$room/log"
+    (cd "$room/run" && "${1//[-.]/_}_suite" "$room/$1.$3" "$2" "$3")
+    { grep -a '^World-stopped marking' "$room/log"; grep -a 'mpgc: [0-9]* collections: ' "$room/$1.$3.said"; } |
+        awk '/^World/ { sum++ } match($0, /[0-9]+ collections/) { sum += substr($0, RSTART) } END { print sum + 0 }' >"$room/$1.$3.collections"
+    [ -z "${KEEP:-}" ] || cp -r "$room/$1.$3".* "$KEEP"
 }
 
 # others NAME MODE: the tests that fail, and don't over libgc.
@@ -87,28 +75,45 @@ others() {
     echo "${more:-none}"
 }
 
+# row NAME SOURCE: of the table.
+row() {
+    local mode row collections
+    run_suite "$1" "$2" none
+    row="| $1 | $(cat "$2/version" "$2/../version" 2>"$room/said" | head -n 1) | $(cat "$room/$1.none.count") | $(wc -l <"$room/$1.none.failing") |"
+    collections=$(cat "$room/$1.none.collections")
+    for mode in "${modes[@]}"; do
+        run_suite "$1" "$2" "$mode"
+        row="$row $(others "$1" "$mode") |"
+        collections="$collections, $(cat "$room/$1.$mode.collections")"
+    done
+    echo "$row $collections |"
+}
+
+# NAME:PACKAGE of the source:what has to be here.
+suites=(
+    nix:nix:nix-instantiate w3m:w3m:w3m ecl:ecl:ecl
+    guile-3.0:guile-3.0:/usr/lib/x86_64-linux-gnu/guile/3.0/bin/guile guile-2.2:guile-3.0:/usr/lib/x86_64-linux-gnu/guile/2.2/bin/guile
+    goo:goo:goo crystal:crystal:crystal crystal-threads:crystal:crystal poke:poke:poke neko:neko:neko asymptote:asymptote:asy
+    lilypond:lilypond:lilypond inkscape:inkscape:inkscape macaulay2:macaulay2:M2
+)
 "$top/gc/build" "$room/lib" || exit 1
 same=0
 not=0
 left=()
 wanted=" $* "
-echo "| Suite | tests | fail over libgc |$(printf ' %s |' "${modes[@]}")"
-echo "|---|---|---|$(printf -- '---|%.0s' "${modes[@]}")"
-for suite in nix w3m ecl; do
-    [[ $wanted = "  " || $wanted = *" $suite "* ]] || continue
-    source=$(source_of "$suite")
-    if [ -z "$source" ] || ! command -v "${suite/nix/nix-instantiate}" >"$room/said"; then
-        left+=("$suite")
+echo "| Suite | source | tests | fail over libgc |$(printf ' %s |' "${modes[@]}") collections |"
+echo "|---|---|---|---|$(printf -- '---|%.0s' "${modes[@]}")---|"
+for suite in "${suites[@]}"; do
+    IFS=: read -r name package program <<<"$suite"
+    [[ $wanted = "  " || $wanted = *" $name "* ]] || continue
+    source=$(source_of "$package")
+    if [ -z "$source" ] || ! command -v "$program" >"$room/said"; then
+        left+=("$name")
         continue
     fi
-    run_suite "$suite" "$source" none
-    row="| $suite | $(cat "$room/$suite.none.count") | $(wc -l <"$room/$suite.none.failing") |"
-    for mode in "${modes[@]}"; do
-        run_suite "$suite" "$source" "$mode"
-        row="$row $(others "$suite" "$mode") |"
-    done
+    row=$(row "$name" "$source")
     echo "$row"
-    if [[ $row =~ (\|\ none\ ){${#modes[@]}}\|$ ]]; then same=$((same + 1)); else not=$((not + 1)); fi
+    if [[ $row =~ (\|\ none\ ){${#modes[@]}}\|[^|]*\|$ ]]; then same=$((same + 1)); else not=$((not + 1)); fi
 done
 for one in "${left[@]}"; do echo "left out: $one, whose source or program isn't here"; done
 echo "$same same, $not not, ${#left[@]} left out"

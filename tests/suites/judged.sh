@@ -1,0 +1,75 @@
+# shellcheck shell=bash
+# Suites whose tests say themselves whether they fail. Each function is called as SUITE TO SOURCE MODE in an empty folder, and leaves in
+# TO.failing the names of the tests that fail, in TO.count how many there are, and in TO.said what was said.
+
+nix_suite() {
+    cp -r "$2/tests/." .
+    : >common.sh
+    # Nix asks for 32 MB at its start, in which no test comes to a collection.
+    GC_INITIAL_HEAP_SIZE=64k over "$3" 300 bash lang.sh >"$1.said" 2>&1
+    grep -a '^FAIL: ' "$1.said" | awk '{ print $2 }' >"$1.failing"
+    grep -ac '^parsing \|^evaluating ' "$1.said" >"$1.count"
+}
+
+w3m_suite() {
+    local test options
+    cp -r "$2/tests/." .
+    for test in *.html; do
+        options=()
+        [ ! -e "${test%.html}.opts" ] || mapfile -t options < <(grep -v '^#' "${test%.html}.opts")
+        over "$3" 300 w3m -config /dev/null -o ignore_null_img_alt=false -I utf-8 -O utf-8 -T text/html "${options[@]}" <"$test" 2>>"$1.said" |
+            cmp -s - "${test%.html}.expected" || echo "$test"
+    done >"$1.failing"
+    find . -name '*.html' | wc -l >"$1.count"
+}
+
+ecl_suite() {
+    cp -r "$2/src/tests/." .
+    sed "s,@true_srcdir@,$2/src,; s,@builddir@,$PWD,; s,@prefix@,/usr," config.lsp.in >config.lsp
+    over "$3" 30 ecl -norc -load doit.lsp -eval "(2am-ecl:run 'cl-test::make-check)" -eval '(ext:quit)' </dev/null >"$1.said" 2>&1
+    sed -n '/^Failure details/,$p' "$1.said" | sed -n 's/^ \([A-Z][^ ]*\):$/\1/p' | sort >"$1.failing"
+    sed -n 's/^Did \([0-9]*\) tests.*/\1/p' "$1.said" >"$1.count"
+}
+
+# Each file in a process of its own: one that can't be loaded would end the others. A file that ends otherwise than by its tests is a failure too.
+guile() {
+    local file name ended
+    cp -r "$2/test-suite/." .
+    : >"$1.log"
+    for file in tests/${FILES:-*}.test; do
+        name=$(basename "$file")
+        GUILE_AUTO_COMPILE=0 over "$3" 30 "/usr/lib/x86_64-linux-gnu/guile/$4/bin/guile" -L . --no-auto-compile -e main -s guile-test --test-suite tests \
+            --log-file log "$name" </dev/null >>"$1.said" 2>&1
+        ended=$?
+        [ $ended -le 1 ] || echo "ERROR: $name: ended by $ended" >>"$1.log"
+        [ ! -e log ] || cat log >>"$1.log"
+        rm -f log
+    done
+    sed -n 's/^\(FAIL\|UPASS\|ERROR\): //p' "$1.log" | cut -d : -f 1,2 | tr ' ' _ >"$1.failing"
+    grep -ac '^\(PASS\|FAIL\|UPASS\|XFAIL\): ' "$1.log" >"$1.count"
+}
+guile_3_0_suite() { guile "$@" 3.0; }
+guile_2_2_suite() { guile "$@" 2.2; }
+
+# Goo says of each test that is wrong one line at the end.
+goo_suite() {
+    cp -r "$2/src/." .
+    printf '(use tests)\n(run-all-tests)\n' | GOO_ROOT=/usr/lib/goo over "$3" 300 goo >"$1.said" 2>&1
+    sed -n '/^WARNING AND ERROR SUMMARY/,/^Tautology/p' "$1.said" | grep -a '^\(Warning\|Error\)' | tr ' ' _ >"$1.failing"
+    grep -ac '^  (' "$1.said" >"$1.count"
+}
+
+# Poke's tests of its own library and of descriptions of files, which pktest runs.
+poke_suite() {
+    local file ended
+    cp -r "$2/testsuite/." .
+    : >"$1.said"
+    for file in poke.*/*-test.pk; do
+        echo "file $file" >>"$1.said"
+        (cd "$(dirname "$file")" && over "$3" 300 poke -q -L "$(basename "$file")" </dev/null >>"$1.said" 2>&1)
+        ended=$?
+        [ $ended = 0 ] || echo "$file"
+        awk -v file="$file" '/^file / { is_it = $2 == file } is_it && /^(FAIL|XPASS)/ { gsub(" ", "_"); print file ":" $0 }' "$1.said"
+    done >"$1.failing"
+    grep -ac '^\(PASS\|FAIL\|XFAIL\)' "$1.said" >"$1.count"
+}
