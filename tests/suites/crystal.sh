@@ -19,14 +19,17 @@ specs_of() {
     echo "$binary"
 }
 
-# crystal TO SOURCE MODE FLAGS..: a spec that fails is told by its file and line at the end.
+# crystal_with TO SOURCE MODE FLAGS..: a spec that fails is told by its file and line at the end. Those that ask for gigabytes run by themselves.
 crystal_with() {
-    local binary ended
+    local binary tag ended
     binary=$(specs_of "$2" "${@:4}")
-    (cd "$2" && over "$3" 30 "$binary" --no-color </dev/null >"$1.said" 2>&1)
-    ended=$?
-    { sed -n 's/^crystal spec \([^ ]*\).*/\1/p' "$1.said"; [ $ended -le 1 ] || echo "ended_by_$ended"; } >"$1.failing"
-    sed -n 's/^\([0-9]*\) examples, .*/\1/p' "$1.said" >"$1.count"
+    for tag in '~slow' slow; do
+        (cd "$2" && over "$3" 30 "$binary" --no-color --tag "$tag" </dev/null >>"$1.said" 2>&1)
+        ended=$?
+        [ $ended -le 1 ] || echo "$tag:ended_by_$ended"
+    done >"$1.failing"
+    sed -n 's/^crystal spec \([^ ]*\).*/\1/p' "$1.said" >>"$1.failing"
+    awk '/^[0-9]+ examples, / { sum += $1 } END { print sum + 0 }' "$1.said" >"$1.count"
 }
 crystal_suite() { crystal_with "$@"; }
 crystal_threads_suite() { CRYSTAL_WORKERS=4 crystal_with "$@" -Dpreview_mt; }

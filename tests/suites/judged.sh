@@ -45,8 +45,8 @@ guile() {
         [ ! -e log ] || cat log >>"$1.log"
         rm -f log
     done
-    sed -n 's/^\(FAIL\|UPASS\|ERROR\): //p' "$1.log" | cut -d : -f 1,2 | tr ' ' _ >"$1.failing"
-    grep -ac '^\(PASS\|FAIL\|UPASS\|XFAIL\): ' "$1.log" >"$1.count"
+    sed -n 's/ - arguments: .*//; s/^\(FAIL\|UPASS\|ERROR\): //p' "$1.log" | tr ' ' _ >"$1.failing"
+    grep -ac '^[A-Z]*: ' "$1.log" >"$1.count"
 }
 guile_3_0_suite() { guile "$@" 3.0; }
 guile_2_2_suite() { guile "$@" 2.2; }
@@ -59,17 +59,10 @@ goo_suite() {
     grep -ac '^  (' "$1.said" >"$1.count"
 }
 
-# Poke's tests of its own library and of descriptions of files, which pktest runs.
+# Dejagnu runs poke's, each in a process of its own. FILES is a pattern, as for guile.
 poke_suite() {
-    local file ended
-    cp -r "$2/testsuite/." .
-    : >"$1.said"
-    for file in poke.*/*-test.pk; do
-        echo "file $file" >>"$1.said"
-        (cd "$(dirname "$file")" && over "$3" 300 poke -q -L "$(basename "$file")" </dev/null >>"$1.said" 2>&1)
-        ended=$?
-        [ $ended = 0 ] || echo "$file"
-        awk -v file="$file" '/^file / { is_it = $2 == file } is_it && /^(FAIL|XPASS)/ { gsub(" ", "_"); print file ":" $0 }' "$1.said"
-    done >"$1.failing"
-    grep -ac '^\(PASS\|FAIL\|XFAIL\)' "$1.said" >"$1.count"
+    HAVE_LIBTEXTSTYLE=yes NBDKIT=no HOST_OS=linux TESTS="${FILES:-*}.pk" over "$3" 300 runtest --tool poke --srcdir "$2/testsuite" --objdir "$PWD" \
+        POKE=/usr/bin/poke SHELL=/bin/sh pkl.exp >"$1.said" 2>&1
+    sed -n 's/^\(FAIL\|XPASS\|UNRESOLVED\|ERROR\): //p' poke.sum | tr ' ' _ >"$1.failing"
+    grep -ac '^\(PASS\|FAIL\|XFAIL\|XPASS\): ' poke.sum >"$1.count"
 }
