@@ -59,10 +59,14 @@ goo_suite() {
     grep -ac '^  (' "$1.said" >"$1.count"
 }
 
-# Dejagnu runs poke's, each in a process of its own. FILES is a pattern, as for guile.
+# Dejagnu runs poke's, each in a process of its own, and calls what it doesn't expect on the second output an error. FILES is a pattern, as for guile.
 poke_suite() {
+    # shellcheck disable=SC2016 # (the script of another shell)
+    printf '#!/bin/sh\n/usr/bin/poke "$@" 2>err\nended=$?\ngrep -v "^mpgc: " err >&2\ngrep "^mpgc: " err >>figures\nexit $ended\n' >poke
+    chmod +x poke
     HAVE_LIBTEXTSTYLE=yes NBDKIT=no HOST_OS=linux TESTS="${FILES:-*}.pk" over "$3" 300 runtest --tool poke --srcdir "$2/testsuite" --objdir "$PWD" \
-        POKE=/usr/bin/poke SHELL=/bin/sh pkl.exp >"$1.said" 2>&1
+        POKE="$PWD/poke" SHELL=/bin/sh pkl.exp >"$1.said" 2>&1
+    [ ! -e figures ] || cat figures >>"$1.said"
     sed -n 's/^\(FAIL\|XPASS\|UNRESOLVED\|ERROR\): //p' poke.sum | tr ' ' _ >"$1.failing"
     grep -ac '^\(PASS\|FAIL\|XFAIL\|XPASS\): ' poke.sum >"$1.count"
 }
