@@ -64,7 +64,7 @@ lilypond_suite() {
     local files page
     mkdir -p pages
     mapfile -t files < <(find "$2/input/regression" -maxdepth 1 -name "${FILES:-*}.ly" | sort | awk 'NR % 25 < 5')
-    over "$3" 3 lilypond -s --svg -dno-point-and-click -I "$2/input/regression" -o pages "${files[@]}" </dev/null >"$1.said" 2>&1
+    (cd pages && over "$3" 3 lilypond -s --svg -dno-point-and-click -I "$2/input/regression" "${files[@]}" </dev/null >"$1.said" 2>&1)
     echo "status $?" >>"$1.said"
     mkdir -p "$1.outs"
     for page in pages/*; do { cat "$page"; echo; echo "status 0"; } >"$1.outs/$(basename "$page")"; done
