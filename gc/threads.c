@@ -257,7 +257,7 @@ static void on_goodbye(void *record)
     sigset_t old;
     forget(self, &old);
     mpgc_drop_keys();
-    mpgc_drop_signals_stack();
+    if (MOVES_SIGNALS_STACKS) mpgc_drop_signals_stack();
 }
 
 void GC_pthread_exit(void *answer)
