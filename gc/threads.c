@@ -23,7 +23,7 @@ SHOWN _Noreturn void GC_pthread_exit(void *answer);
 _Thread_local struct thread *mpgc_self __attribute__((tls_model("initial-exec")));
 
 static pthread_key_t key;
-enum { LAST_ROUND = 4 };  // of destructors of keys: the C library makes so many
+enum { LAST_ROUND = 4 - ROUNDS_OF_TOOL };  // of destructors of keys: the C library makes four
 static _Thread_local bool has_said_goodbye __attribute__((tls_model("initial-exec")));
 
 // ---- Records ----
