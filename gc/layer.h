@@ -7,7 +7,7 @@
 //
 //   start.c                "`heap` points to an mpheap that was opened and has not been closed since", and is opened once
 //   lock.c world.c         "Calls on one heap are made by one thread at a time", and what another thread writes falls into none that
-//                          reads the program's words
+//   behind.c               reads the program's words
 //   signals.c              ".. and never from a signal handler that interrupted one of them", with CALL and GRANTED below, in which every
 //                          call stands; and a write to a closed page reaches the barrier
 //   protection.c pages.c   the barrier, which is the heart of the layer: "the address was told by mpheap_written first", while a cycle
@@ -33,6 +33,7 @@
 #include "front.h"
 #include <pthread.h>
 #include <stdatomic.h>
+#include <ucontext.h>
 #include "mpheap.h"
 
 _Static_assert(PAGE == MPHEAP_PAGE_BYTES && FIRST == MPHEAP_FIRST_ADDRESS && WORD == MPHEAP_WORD_BYTES && MAX_PAGES == MPHEAP_MOST_PAGES,
@@ -77,6 +78,8 @@ struct thread {
     char *pointer;                         // by which its thread-local data is found (locals.c)
     void ***keys;                          // what it has by pthread_setspecific
     void **late_keys;                      // the same of one that is late: this room goes with the record
+    struct behind { const char *returns, *stack; volatile sig_atomic_t leaves; } behind;  // the last call that it made under the lock
+    bool stands_behind;                    // it was stopped there (behind.c)
     struct pin { struct pages { size_t from, to; } pages; const char *frame; } pinned[PINS];  // that the kernel may write to, by whose call
     volatile size_t pins;
     volatile sig_atomic_t changes_pins;
@@ -172,6 +175,9 @@ HIDDEN bool mpgc_world_is_stopped(void);
 HIDDEN void mpgc_make_stoppable(void);
 HIDDEN void mpgc_wait_suspended(void);
 HIDDEN struct thread *mpgc_record_of(pthread_t id);
+
+// behind.c. Whether a signal came to this thread in the moment behind a call under the lock.
+HIDDEN bool mpgc_is_behind(const struct thread *self, const ucontext_t *context);
 
 // Counted under the rest.
 // Every call of the core stands between two of these: the fault handler then only notes a page, and it is told here. The inner ones stand

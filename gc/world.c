@@ -87,6 +87,7 @@ static void on_suspend(int number, siginfo_t *info, void *context)
     (void)info;
     if (!self) return;
     __builtin_unwind_init();  // saves the registers that a call keeps
+    self->stands_behind = mpgc_is_behind(self, context);
     bool is_on_alt = !(alt->ss_flags & SS_DISABLE) && here >= low && here < low + alt->ss_size;
     wait_here(self, is_on_alt ? low + alt->ss_size : NULL);
     errno = kept;
@@ -170,12 +171,51 @@ static void stop_others(void)
     mpgc_count_stop(mpgc_now() - start);
 }
 
+static void let_others_go_on(void)
+{
+    for (const struct thread *one = mpgc.threads; one; one = one->next)
+        if (one->stop == turn && !one->is_suspended) mpgc_tell_of_thread(GC_EVENT_THREAD_UNSUSPENDED, one->id);
+    turn++;
+    wake(&turn);
+    mpgc_count_standing(mpgc_now() - stopped_at);
+}
+
+// One that was stopped behind a call under the lock (behind.c), and may go on.
+static struct thread *first_behind(void)
+{
+    struct thread *one = mpgc.threads;
+    while (one && !(one->stop == turn && one->stands && one->stands_behind && !one->is_suspended)) one = one->next;
+    return one;
+}
+
+// Until this thread has gone on, and a moment more.
+static void let_run(const struct thread *one)
+{
+    static const struct timespec moment = { 0, 20000 };
+    for (unsigned k = 0; k < PATIENCE && one->stands; k++) syscall(SYS_nanosleep, &moment, NULL);
+    syscall(SYS_nanosleep, &moment, NULL);
+}
+
+// All others, and none behind a call under the lock, but one that stays there.
+static void stop_where_they_may(void)
+{
+    enum { TRIES = 50 };
+    unsigned tries = 0;
+    stop_others();
+    for (struct thread *one = first_behind(); one; one = first_behind()) {
+        if (++tries > TRIES) one->behind.returns = NULL;
+        let_others_go_on();
+        let_run(one);
+        stop_others();
+    }
+}
+
 static int stop_under_the_loader(struct dl_phdr_info *object, size_t size, void *unused)
 {
     (void)object;
     (void)size;
     (void)unused;
-    stop_others();
+    stop_where_they_may();
     return 1;
 }
 
@@ -183,19 +223,14 @@ void mpgc_stop_world(void)
 {
     if (stops++ > 0 || !mpgc.is_threaded) return;
     if (!HOLDS_LOADER)
-        stop_others();
+        stop_where_they_may();
     else
         dl_iterate_phdr(stop_under_the_loader, NULL);
 }
 
 void mpgc_start_world(void)
 {
-    if (--stops > 0 || !mpgc.is_threaded || turn % 2 == 0) return;
-    for (const struct thread *one = mpgc.threads; one; one = one->next)
-        if (one->stop == turn && !one->is_suspended) mpgc_tell_of_thread(GC_EVENT_THREAD_UNSUSPENDED, one->id);
-    turn++;
-    wake(&turn);
-    mpgc_count_standing(mpgc_now() - stopped_at);
+    if (--stops == 0 && mpgc.is_threaded && turn % 2 == 1) let_others_go_on();
 }
 
 void mpgc_stop_to_collect(void)

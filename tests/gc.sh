@@ -70,7 +70,7 @@ if command -v clang >"$room/said"; then CC=clang build "$room/clang"; else skip 
 
 # Each function, each place of roots, and what stands round the barrier.
 for test in functions settings macros inline limits links frees pacing leaks unmapped finalizers kinds roots barrier crowded kernel signals handlers moments \
-    process shadow threads world loading registering stopping waiting leaving joining together collector marking stacks; do
+    process shadow threads world loading registering stopping waiting leaving joining behind together collector marking stacks; do
     "${c[@]}" "$top/tests/gc/$test.c" "-L$room" -lmpgc "-Wl,-rpath,$room" -pthread -o "$room/$test" 2>"$room/said"
     is "$test is built" "" "$(cat "$room/said")"
 done
@@ -128,6 +128,9 @@ done
 is "a part that is linked with the library is built, and a program that isn't" "" "$(cat "$room/said")"
 counted "plugging" "$room/plugging" "$room/plugged.so"
 counted "stopping" "$room/stopping"
+for setting in FULL GC_ENABLE_INCREMENTAL GC_COLLECTOR_THREAD; do
+    counted "behind, $setting" env $setting=1 "$room/behind"
+done
 counted "joining" "$room/joining"
 "${c[@]}" -no-pie "$top/tests/gc/process.c" "-L$room" -lmpgc "-Wl,-rpath,$room" -o "$room/fixed" 2>"$room/said"
 counted "process, at fixed addresses" "$room/fixed" "$room/loaded.so"

@@ -19,7 +19,7 @@ struct figures {
 HIDDEN extern struct figures mpgc_figures;
 
 // pacing.c, collections.c, collector.c and beside.c. Whether collections are off; a request does what is due; whether the collector has a
-// thread of its own, for which this program isn't made, and this is woken.
+// thread of its own, for which this program isn't made, and this is woken, and is told of a call under the lock.
 HIDDEN void mpgc_set_budget(void);
 HIDDEN bool mpgc_is_off(void);
 HIDDEN bool mpgc_look(bool is_asked);
@@ -27,6 +27,7 @@ HIDDEN bool mpgc_is_beside(void);
 HIDDEN void mpgc_leave_beside(void);
 HIDDEN bool mpgc_wake_collector(bool may_start);
 HIDDEN void mpgc_lose_collector(void);
+HIDDEN void mpgc_was_called_under_lock(void);
 
 // steps.c
 HIDDEN enum piece mpgc_first_piece(void);

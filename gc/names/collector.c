@@ -49,9 +49,9 @@ static bool look(void)
     }
 }
 
-// Behind a call under the lock a program may have a moment's work to do, as Guile has, which says only then where a thread's stack is that
-// it has moved: and who waits for the lock would stop it right there. So that thread is let work for a moment, if it does, before roots are
-// read; and described objects, of which a thread of Guile is one, aren't read before a cycle's end meanwhile, by whomever.
+// Behind a call under the lock a program may have a moment's work to do (behind.c), for which it may need the lock: who writes to a closed page
+// waits for it. So that thread is let work for a moment, if it does, before roots are read; and described objects, of which a thread of
+// Guile is one, aren't read before a cycle's end meanwhile, by whomever.
 enum { MOMENT = 20, PATIENCE = 200000 };  // microseconds, of that thread's work and of time
 static clockid_t caller;
 static double called_at, had_worked;

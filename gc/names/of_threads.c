@@ -27,15 +27,6 @@ __attribute__((noinline)) void *GC_call_with_stack_base(GC_stack_base_func funct
     return answer;
 }
 
-void *GC_call_with_alloc_lock(GC_fn_type function, void *data)
-{
-    GC_alloc_lock();
-    void *answer = function(data);
-    mpgc_was_called_under_lock();
-    GC_alloc_unlock();
-    return answer;
-}
-
 SHOWN int GC_pthread_cancel(pthread_t thread);
 int GC_pthread_cancel(pthread_t thread) { return pthread_cancel(thread); }
 SHOWN int GC_pthread_sigmask(int how, const sigset_t *set, sigset_t *old);

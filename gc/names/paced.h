@@ -24,7 +24,6 @@ HIDDEN bool mpgc_will_read_roots(void);
 HIDDEN void mpgc_skip_sweeping(void);
 
 // collector.c
-HIDDEN void mpgc_was_called_under_lock(void);
 HIDDEN bool mpgc_is_moment_over(void);
 
 // told.c
