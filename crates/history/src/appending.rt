@@ -53,7 +53,7 @@ impl<O: Object, E: Said<O::Call, O::Reply>> Play<(), View<O::Call, O::Reply>> fo
 }
 
 // What a call of this rank adds to the word.
-pub(crate) fn weight_of(rank: &Rank) -> u64
+fn weight_of(rank: &Rank) -> u64
     ensures { result ≡ weight rank.now }
 {
     match rank {
@@ -67,13 +67,12 @@ impl<O: Object, J: Naming> Log<O, J> {
     pub(crate) fn append<E: Said<O::Call, O::Reply>>(
         &self,
         keeper: &mut Seat<(), View<O::Call, O::Reply>>,
-        add: u64,
         who: u8,
         call: &O::Call,
         reply: &O::Reply,
     )
         requires here { keeper.old.table_id ≡ J.table }
-        requires may { MayAppend O.rank_of (Legal (O.opens J.origin) O.step) E.said add keeper.old.me.0
+        requires may { MayAppend O.rank_of (Legal (O.opens J.origin) O.step) E.said (weight (O.rank_of call.now)) keeper.old.me.0
             (event who call.now reply.now) }
         requires guest { (keeper.old.me.0.hosts ≡ true) × (keeper.old.me.0.guest.slot ≡ who) }
         requires rank { (is_first (O.rank_of call.now) ≡ false) × (is_last (O.rank_of call.now) ≡ false) }
@@ -81,6 +80,7 @@ impl<O: Object, J: Naming> Log<O, J> {
         ensures acted { Acted O.rank_of (event who call.now reply.now ∷ []) keeper.old.me keeper.new.me }
     {
         // The guest sees the whole history with the event, and has it as its own: two steps would leave one without the other.
+        let add = weight_of(&O::rank(call));
         self.table.shared.fetch_add::<Acts<O, E>>(keeper, 0, add);
     }
 
@@ -88,13 +88,12 @@ impl<O: Object, J: Naming> Log<O, J> {
     pub(crate) fn begin<E: Said<O::Call, O::Reply>>(
         &self,
         keeper: &mut Seat<(), View<O::Call, O::Reply>>,
-        add: u64,
         who: u8,
         call: &O::Call,
         reply: &O::Reply,
     )
         requires here { keeper.old.table_id ≡ J.table }
-        requires may { MayAppend O.rank_of (Legal (O.opens J.origin) O.step) E.said add keeper.old.me.0
+        requires may { MayAppend O.rank_of (Legal (O.opens J.origin) O.step) E.said (weight (O.rank_of call.now)) keeper.old.me.0
             (event who call.now reply.now) }
         requires free { is_live O.rank_of who keeper.old.me.0.log ≡ false }
         requires rank { (is_first (O.rank_of call.now) ≡ true) × (is_last (O.rank_of call.now) ≡ false) }
@@ -102,6 +101,7 @@ impl<O: Object, J: Naming> Log<O, J> {
         ensures began { Began O.rank_of (event who call.now reply.now ∷ []) keeper.old.me keeper.new.me }
     {
         // No seat has a pass of the slot, since its last event, if any, was its last, and every pass would say otherwise.
+        let add = weight_of(&O::rank(call));
         self.table.shared.fetch_add::<Begins<O, E>>(keeper, 0, add);
     }
 
@@ -109,13 +109,12 @@ impl<O: Object, J: Naming> Log<O, J> {
     pub(crate) fn end<E: Said<O::Call, O::Reply>>(
         &self,
         keeper: &mut Seat<(), View<O::Call, O::Reply>>,
-        add: u64,
         who: u8,
         call: &O::Call,
         reply: &O::Reply,
     )
         requires here { keeper.old.table_id ≡ J.table }
-        requires may { MayAppend O.rank_of (Legal (O.opens J.origin) O.step) E.said add keeper.old.me.0
+        requires may { MayAppend O.rank_of (Legal (O.opens J.origin) O.step) E.said (weight (O.rank_of call.now)) keeper.old.me.0
             (event who call.now reply.now) }
         requires guest { (keeper.old.me.0.hosts ≡ true) × (keeper.old.me.0.guest.slot ≡ who) }
         requires rank { is_last (O.rank_of call.now) ≡ true }
@@ -123,6 +122,7 @@ impl<O: Object, J: Naming> Log<O, J> {
         ensures ended { Ended O.rank_of (event who call.now reply.now ∷ []) keeper.old.me keeper.new.me }
     {
         // The guest is spent in the step that appends its last event, so that no pass is left that doesn't have it.
+        let add = weight_of(&O::rank(call));
         self.table.shared.fetch_add::<Ends<O, E>>(keeper, 0, add);
     }
 }

@@ -7,7 +7,6 @@ ghost use Rattle.history.specs.Histories.{event, is_first, is_last, is_live, Gro
 ghost use Rattle.history.specs.Objects.{StepsFrom};
 ghost use Rattle.history.specs.Passes.{Agrees, Owned, Recalls};
 
-use crate::appending::weight_of;
 use crate::lending::Returns;
 use crate::log::Log;
 use crate::logged::Logged;
@@ -38,9 +37,8 @@ impl<O: Object, J: Naming> Log<O, J> {
         } }
         ensures agrees { Agrees O.rank_of (O.opens J.origin) O.step result.0 }
     {
-        let add = weight_of(&O::rank(call));
         let reply = logged.object.act(who, call);
-        self.begin::<Brand>(&mut logged.keeper, add, who, call, &reply);
+        self.begin::<Brand>(&mut logged.keeper, who, call, &reply);
         logged.begun = logged.begun.saturating_add(1);
         let seat = self.table.shared.split_seat::<Returns>(&mut logged.keeper);
         let pass = Pass {
@@ -66,11 +64,10 @@ impl<O: Object, J: Naming> Log<O, J> {
         } }
         ensures agrees { Agrees O.rank_of (O.opens J.origin) O.step pass.new }
     {
-        let add = weight_of(&O::rank(call));
         let who = pass.slot;
         let reply = logged.object.act(who, call);
         self.lend(&mut pass.seat, &mut logged.keeper);
-        self.append::<Brand>(&mut logged.keeper, add, who, call, &reply);
+        self.append::<Brand>(&mut logged.keeper, who, call, &reply);
         self.give_back(&mut pass.seat, &mut logged.keeper);
         reply
     }
@@ -96,7 +93,6 @@ impl<O: Object, J: Naming> Log<O, J> {
         } }
         ensures recalls { Recalls O.rank_of (O.opens J.origin) O.step result.0 }
     {
-        let add = weight_of(&O::rank(call));
         let Pass {
             slot: who,
             mut seat,
@@ -104,7 +100,7 @@ impl<O: Object, J: Naming> Log<O, J> {
         } = pass;
         let reply = logged.object.act(who, call);
         self.lend(&mut seat, &mut logged.keeper);
-        self.end::<Brand>(&mut logged.keeper, add, who, call, &reply);
+        self.end::<Brand>(&mut logged.keeper, who, call, &reply);
         let part = self.recall(&mut logged.keeper);
         let past = Past {
             slot: who,
