@@ -6,7 +6,7 @@ ghost use Rattle.marker.specs.Invariant.{DirtyPageInvariant};
 ghost use Rattle.marker.specs.Marking.{AreMarksObjects};
 
 use block_map::BlockMap;
-use final_pause::{Helpers, Open, close_marks, close_marks_with};
+use final_pause::{Graph, Helpers, Open, close_marks, close_marks_with};
 use fixtures::BlockSpace;
 use marker::Marker;
 use pages::{Memory, Reader};
@@ -61,7 +61,8 @@ fn mark_in_pause<R: Threads + Wait + Sync>(
     begin(marker, map);
     let memory = space.memory();
     if let Some(helpers) = helpers {
-        close_marks_with(rt, alloc, marker, map, memory, roots, helpers, &Open);
+        let graph = Graph { map, memory, roots };
+        close_marks_with(rt, alloc, marker, graph, helpers, &Open);
         return;
     }
     let mut reader = Reader::new(memory);

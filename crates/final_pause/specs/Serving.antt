@@ -14,6 +14,7 @@ use Rattle.marker.specs.Marking.{IsMarked, entries, word_address}
 use Rattle.marker.specs.Closure.{Closure}
 use Rattle.marker.specs.Growth.{IsStrayPage}
 use Rattle.final_pause.specs.declared.helper.Helper.{Helper}
+use Rattle.final_pause.specs.declared.piece.Piece.{Piece}
 use Rattle.final_pause.specs.Pauses.{PauseView}
 use Rattle.final_pause.specs.Dealing.{rank}
 use Rattle.final_pause.specs.Helping.{IsHelperOf, IsTargetKnown, IsWordRead, IsAwaitedBy, IsPageOfWon, AreWon, found, won_of, turn_of}
@@ -93,6 +94,11 @@ pub record AreOwnMarks (p : PauseView) (place number j word : ℕ) : Type 0 wher
 abbrev pub AreWordsRead : PauseView → ClaimerView → List Bool → ℕ → ℕ → ℕ → ℕ → Type 0
 AreWordsRead p v carried place number low high = (f : Found) → found p f.base ≡ Some f → f.kind ≡ Normal → IsMarked p.marker f.base → IsTurn p place number f
     → (i : ℕ) → i < f.len → low ≤ word_address f i → word_address f i < high → IsWordRead p v carried f i
+
+-- the words of a piece were read, if its object is a Normal one that was marked before, whose turn is the place's
+abbrev pub IsPieceRead : PauseView → ClaimerView → List Bool → ℕ → ℕ → Piece → Type 0
+IsPieceRead p v carried place number w = w.found.kind ≡ Normal → IsMarked p.marker w.found.base → IsTurn p place number w.found
+    → (i : ℕ) → w.first ≤ i → i < w.first + w.count → IsWordRead p v carried w.found i
 
 -- the same for the words of the dirty page of a number
 abbrev pub IsPageRead : PauseView → ClaimerView → List Bool → ℕ → ℕ → ℕ → Type 0

@@ -12,10 +12,11 @@ ghost use Rattle.marker.specs.Closure.{AreClosed};
 ghost use Rattle.marker.specs.Growth.{Traces};
 
 use crate::alone::mark_on;
+use crate::graph::Graph;
 use crate::helpers::Helpers;
 use block_map::BlockMap;
 use marker::Marker;
-use pages::{Memory, Reader};
+use pages::Reader;
 use words::limits::PAGE_WORDS;
 
 // How many words are read between two looks at what waits.
@@ -52,32 +53,26 @@ fn is_shareable(marker: &Marker, helpers: Helpers) -> bool {
 /// Marks on alone, from the roots, until nothing is left to read, or enough waits for the helpers on a heap of as many words as
 /// they start for, of which a quarter is read. Where they start at once it does nothing. Answers whether nothing is left to
 /// read: then the marks are the closure of the marks before and the roots.
-pub(crate) fn mark_before_helpers(
-    marker: &mut Marker,
-    map: &BlockMap,
-    memory: &Memory,
-    roots: &[u64],
-    helpers: Helpers,
-) -> bool
-    requires pages { length marker.old.dirty ≡ length map.now }
-    requires memory { length memory.now ≡ PAGE_WORDS * length map.now }
-    requires objects { AreMarksObjects (found_in map.now) marker.old }
-    requires invariant { DirtyPageInvariant (found_in map.now) memory.now marker.old }
-    ensures closure { result ≡ true → AreClosed (found_in map.now) memory.now roots.now marker.old marker.new }
+pub(crate) fn mark_before_helpers(marker: &mut Marker, graph: Graph, helpers: Helpers) -> bool
+    requires pages { length marker.old.dirty ≡ length graph.map.now }
+    requires memory { length graph.memory.now ≡ PAGE_WORDS * length graph.map.now }
+    requires objects { AreMarksObjects (found_in graph.map.now) marker.old }
+    requires invariant { DirtyPageInvariant (found_in graph.map.now) graph.memory.now marker.old }
+    ensures closure { result ≡ true → AreClosed (found_in graph.entry.map.now) graph.entry.memory.now graph.entry.roots.now marker.old marker.new }
     ensures done { result ≡ true → IsDone marker.new }
-    ensures traces { Traces (found_in map.now) memory.now roots.now marker.old marker.new }
+    ensures traces { Traces (found_in graph.entry.map.now) graph.entry.memory.now graph.entry.roots.now marker.old marker.new }
 {
     let least = helpers.least_words();
     if least == 0 {
         return false;
     }
-    let mut reader = Reader::new(memory);
+    let mut reader = Reader::new(graph.memory);
     let (mut read, mut wanted) = (0u64, least / 4);
-    marker.scan_roots(map, roots);
-    while let Some(more) = mark_on(marker, map, &mut reader, SLICE) {
+    marker.scan_roots(graph.map, graph.roots);
+    while let Some(more) = mark_on(marker, graph.map, &mut reader, SLICE) {
         read = read.saturating_add(more);
         if read >= wanted && is_shareable(marker, helpers) {
-            if has_words(map, least) {
+            if has_words(graph.map, least) {
                 return false;
             }
             // The heap is too small, and is not asked again.

@@ -19,6 +19,7 @@ ghost use Rattle.final_pause.specs.Serving.{IsServing, GoesOnServing, AreTurnsRe
 
 use crate::gate::Gate;
 use crate::helper::Helper;
+use crate::piece::Piece;
 use crate::share::Pause;
 use block_map::Found;
 use marker::{Entry, Marker};
@@ -51,84 +52,60 @@ fn is_long(found: Found) -> bool
 }
 
 impl<'a> Pause<'a> {
-    // Reads so many words of an object, from its word `first` on, which stand on one page, if the page's turn is the helper's.
-    fn read_turn<G: Gate>(
-        &self,
-        gate: &G,
-        helper: &mut Helper,
-        found: Found,
-        first: u32,
-        count: u64,
-        number: usize,
-    )
+    // Reads words of an object, which stand on one page, if the page's turn is the helper's.
+    fn read_turn<G: Gate>(&self, gate: &G, helper: &mut Helper, piece: Piece, number: usize)
         requires serving { IsServing (pause_view self.now) helper.old }
-        requires object { found_in self.now.map.now found.base ≡ Some found }
-        requires normal { found.kind ≡ Normal }
-        requires marked { IsMarked self.now.marker.now found.base }
-        requires inside { first + count ≤ found.len }
-        requires some { 0 < count }
-        requires one_page { (i : ℕ) → first ≤ i → i < first + count → page_of (word_address found i) ≡ page_of (word_address found first) }
+        requires object { found_in self.now.map.now piece.found.base ≡ Some piece.found }
+        requires normal { piece.found.kind ≡ Normal }
+        requires marked { IsMarked self.now.marker.now piece.found.base }
+        requires inside { piece.first + piece.count ≤ piece.found.len }
+        requires some { 0 < piece.count }
+        requires one_page { (i : ℕ) → piece.first ≤ i → i < piece.first + piece.count → page_of (word_address piece.found i) ≡ page_of (word_address piece.found piece.first) }
         requires few { number ≤ MARK_STACK_ENTRIES }
         ensures serves { GoesOnServing (pause_view self.now) helper.old helper.new }
-        ensures read { AreTurnsRead (pause_view self.now) (view helper.new.claimer) helper.new.carried helper.old.place (page_turn (pause_view self.now) number found) found first (first + count) }
+        ensures read { AreTurnsRead (pause_view self.now) (view helper.new.claimer) helper.new.carried helper.old.place (page_turn (pause_view self.now) number piece.found) piece.found piece.first (piece.first + piece.count) }
     {
-        let address = found.base + WORD_BYTES * u64::from(first);
-        let page = (page_of(address) - page_of(found.base)) as usize;
+        let address = piece.found.base + WORD_BYTES * u64::from(piece.first);
+        let page = (page_of(address) - page_of(piece.found.base)) as usize;
         if (number + page) % self.helpers != helper.place {
             return;
         }
-        self.read_run(gate, helper, found, first, count);
+        self.read_run(gate, helper, piece);
         self.make_room(gate, helper);
     }
 
-    // Reads those of so many words of an object, from its word `first` on, which stand on one page, that point into the
-    // helper's spans.
-    fn read_spans<G: Gate>(
-        &self,
-        gate: &G,
-        helper: &mut Helper,
-        found: Found,
-        first: u32,
-        count: u64,
-    )
+    // Reads those of some words of an object, which stand on one page, that point into the helper's spans.
+    fn read_spans<G: Gate>(&self, gate: &G, helper: &mut Helper, piece: Piece)
         requires serving { IsServing (pause_view self.now) helper.old }
-        requires object { found_in self.now.map.now found.base ≡ Some found }
-        requires normal { found.kind ≡ Normal }
-        requires marked { IsMarked self.now.marker.now found.base }
-        requires inside { first + count ≤ found.len }
-        requires one_page { (i : ℕ) → first ≤ i → i < first + count → page_of (word_address found i) ≡ page_of (word_address found first) }
+        requires object { found_in self.now.map.now piece.found.base ≡ Some piece.found }
+        requires normal { piece.found.kind ≡ Normal }
+        requires marked { IsMarked self.now.marker.now piece.found.base }
+        requires inside { piece.first + piece.count ≤ piece.found.len }
+        requires one_page { (i : ℕ) → piece.first ≤ i → i < piece.first + piece.count → page_of (word_address piece.found i) ≡ page_of (word_address piece.found piece.first) }
         ensures serves { GoesOnServing (pause_view self.now) helper.old helper.new }
-        ensures read { AreTurnsRead (pause_view self.now) (view helper.new.claimer) helper.new.carried helper.old.place (λ i. span_turn (pause_view self.now) (word_in (pause_view self.now) found i)) found first (first + count) }
+        ensures read { AreTurnsRead (pause_view self.now) (view helper.new.claimer) helper.new.carried helper.old.place (λ i. span_turn (pause_view self.now) (word_in (pause_view self.now) piece.found i)) piece.found piece.first (piece.first + piece.count) }
     {
-        self.read_own(gate, helper, found, first, count);
+        self.read_own(gate, helper, piece);
         self.make_room(gate, helper);
     }
 
-    // Reads the helper's part of so many words of the object of the entry of a number, which stand on one page.
-    fn read_piece<G: Gate>(
-        &self,
-        gate: &G,
-        helper: &mut Helper,
-        found: Found,
-        first: u32,
-        count: u64,
-        number: usize,
-    )
+    // Reads the helper's part of words of the object of the entry of a number, which stand on one page.
+    fn read_piece<G: Gate>(&self, gate: &G, helper: &mut Helper, piece: Piece, number: usize)
         requires serving { IsServing (pause_view self.now) helper.old }
-        requires object { found_in self.now.map.now found.base ≡ Some found }
-        requires normal { found.kind ≡ Normal }
-        requires marked { IsMarked self.now.marker.now found.base }
-        requires inside { first + count ≤ found.len }
-        requires some { 0 < count }
-        requires one_page { (i : ℕ) → first ≤ i → i < first + count → page_of (word_address found i) ≡ page_of (word_address found first) }
+        requires object { found_in self.now.map.now piece.found.base ≡ Some piece.found }
+        requires normal { piece.found.kind ≡ Normal }
+        requires marked { IsMarked self.now.marker.now piece.found.base }
+        requires inside { piece.first + piece.count ≤ piece.found.len }
+        requires some { 0 < piece.count }
+        requires one_page { (i : ℕ) → piece.first ≤ i → i < piece.first + piece.count → page_of (word_address piece.found i) ≡ page_of (word_address piece.found piece.first) }
         requires few { number ≤ MARK_STACK_ENTRIES }
         ensures serves { GoesOnServing (pause_view self.now) helper.old helper.new }
-        ensures read { IsRunRead (pause_view self.now) (view helper.new.claimer) helper.new.carried helper.old.place number found first (first + count) }
+        ensures read { IsRunRead (pause_view self.now) (view helper.new.claimer) helper.new.carried helper.old.place number piece.found piece.first (piece.first + piece.count) }
     {
-        if is_long(found) {
-            self.read_spans(gate, helper, found, first, count);
+        if is_long(piece.found) {
+            self.read_spans(gate, helper, piece);
         } else {
-            self.read_turn(gate, helper, found, first, count, number);
+            self.read_turn(gate, helper, piece, number);
         }
     }
 
@@ -147,7 +124,12 @@ impl<'a> Pause<'a> {
             let address = found.base + WORD_BYTES * u64::from(next);
             let on_page = (PAGE_BYTES - address % PAGE_BYTES) / WORD_BYTES;
             let count = on_page.min(u64::from(found.len - next)).min(PIECE);
-            self.read_piece(gate, helper, found, next, count, number);
+            let piece = Piece {
+                found,
+                first: next,
+                count,
+            };
+            self.read_piece(gate, helper, piece, number);
             next += count as u32;
         }
     }

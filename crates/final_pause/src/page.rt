@@ -10,22 +10,22 @@
 //!
 //! On a page that is cut, their bits tell where these objects begin and the page's block what they are, with no look-up and
 //! no look at any other object. On another page stands one object at most.
-ghost use Rattle.std.specs.Prelude.{◌≡◌, ℕ, ◌+◌, ◌*◌, ◌%◌, ◌<◌, ◌≤◌, length};
+ghost use Rattle.std.specs.Prelude.{◌≡◌, ℕ, ◌+◌, ◌*◌, ◌<◌, ◌≤◌, Some, length};
 ghost use Rattle.words.specs.Bits.{Has};
 ghost use Rattle.words.specs.declared.class.Kind.TheVariants.{Normal};
-ghost use Rattle.words.specs.declared.limits.TheConstants.{MOST_PAGES, PAGE_GRANULES, WORD_BYTES};
+ghost use Rattle.words.specs.declared.limits.TheConstants.{MOST_PAGES, PAGE_GRANULES};
 ghost use Rattle.mark_bits.specs.Tables.{view};
 ghost use Rattle.block_map.specs.FoundIn.{found_in};
 ghost use Rattle.block_map.specs.States.{cut, state_at};
-ghost use Rattle.block_map.specs.Walks.{IsNextObject};
 ghost use Rattle.final_pause.specs.Dealing.{rank};
 ghost use Rattle.final_pause.specs.Pauses.{pause_view};
-ghost use Rattle.final_pause.specs.Serving.{IsServing, GoesOnServing, AreWordsRead, AreObjectsRead, IsPageRead, ArePagesRead};
+ghost use Rattle.final_pause.specs.Serving.{IsServing, GoesOnServing, IsPieceRead, AreObjectsRead, IsPageRead, ArePagesRead};
 
 use crate::gate::Gate;
 use crate::helper::Helper;
+use crate::piece::Piece;
 use crate::share::Pause;
-use block_map::{Found, object_from};
+use block_map::object_from;
 use blocks::Block;
 use marker::part_between;
 use words::limits::{FIRST_ADDRESS, GRANULE_BYTES, PAGE_BYTES, PAGE_GRANULES};
@@ -34,41 +34,35 @@ use words::{Kind, PageNo, granule_of, page_start};
 // The words of 64 mark bits that a page has.
 const MARK_WORDS: usize = (PAGE_GRANULES / 64) as usize;
 
+// A dirty page that is cut, and its number among the dirty ones.
+#[derive(Clone, Copy)]
+struct DirtyBlock<'b> {
+    page: PageNo,
+    block: &'b Block,
+    number: usize,
+}
+
 impl<'a> Pause<'a> {
-    // Reads the words of the next object on a page that stand between two addresses, if it was a marked Normal one before
-    // the helpers started and it is the helper's turn. Answers the first address past them.
-    fn read_part<G: Gate>(
-        &self,
-        gate: &G,
-        helper: &mut Helper,
-        found: Found,
-        low: u64,
-        high: u64,
-        number: usize,
-    ) -> u64
+    // Reads words of an object on the dirty page of a number, if it was a marked Normal one before the helpers started and it is
+    // the helper's turn.
+    fn read_part<G: Gate>(&self, gate: &G, helper: &mut Helper, piece: Piece, number: usize)
         requires serving { IsServing (pause_view self.now) helper.old }
-        requires next { IsNextObject (found_in self.now.map.now) low high found }
-        requires low { low % WORD_BYTES ≡ 0 }
-        requires high { high % WORD_BYTES ≡ 0 }
+        requires object { found_in self.now.map.now piece.found.base ≡ Some piece.found }
+        requires inside { piece.first + piece.count ≤ piece.found.len }
         requires few { number ≤ MOST_PAGES }
         ensures serves { GoesOnServing (pause_view self.now) helper.old helper.new }
-        ensures read { AreWordsRead (pause_view self.now) (view helper.new.claimer) helper.new.carried helper.old.place number low result }
-        ensures further { low < result }
-        ensures within { result ≤ high }
-        ensures aligned { result % WORD_BYTES ≡ 0 }
+        ensures read { IsPieceRead (pause_view self.now) (view helper.new.claimer) helper.new.carried helper.old.place number piece }
     {
-        let part = part_between(found, low, high);
-        if found.kind == Kind::PointerFree {
-            return part.stop;
+        if piece.found.kind == Kind::PointerFree {
+            return;
         }
-        if !self.is_turn(helper, number, granule_of(found.base)) {
-            return part.stop;
+        if !self.is_turn(helper, number, granule_of(piece.found.base)) {
+            return;
         }
-        if !self.marker.is_marked(found.base) {
-            return part.stop;
+        if !self.marker.is_marked(piece.found.base) {
+            return;
         }
-        self.read_words(gate, helper, found, part.first, part.count);
-        part.stop
+        self.read_words(gate, helper, piece);
     }
 
     // Reads the words on a page of all objects that were marked Normal ones before the helpers started, object by object.
@@ -82,89 +76,79 @@ impl<'a> Pause<'a> {
         let mut address = page_start(page);
         let end = address + PAGE_BYTES;
         while let Some(found) = self.map.next_on_page(page, address) {
-            address = self.read_part(gate, helper, found, address, end, number);
+            let part = part_between(found, address, end);
+            let piece = Piece {
+                found,
+                first: part.first,
+                count: part.count,
+            };
+            self.read_part(gate, helper, piece, number);
+            address = part.stop;
         }
     }
 
     // Reads the words of the object of a block that begins at a granule that was marked before the helpers started, if one
     // does.
     #[inline]
-    fn read_at<G: Gate>(
-        &self,
-        gate: &G,
-        helper: &mut Helper,
-        page: PageNo,
-        block: &Block,
-        granule: usize,
-    )
+    fn read_at<G: Gate>(&self, gate: &G, helper: &mut Helper, dirty: DirtyBlock, granule: usize)
         requires serving { IsServing (pause_view self.now) helper.old }
-        requires inside { page < length self.now.map.now }
-        requires cut { state_at self.now.map.now page ≡ cut block.now }
-        requires normal { block.now.kind ≡ Normal }
-        requires on { (PAGE_GRANULES * page ≤ granule) × (granule < PAGE_GRANULES * (page + 1)) }
+        requires inside { dirty.page < length self.now.map.now }
+        requires cut { state_at self.now.map.now dirty.page ≡ cut dirty.block.now }
+        requires normal { dirty.block.now.kind ≡ Normal }
+        requires on { (PAGE_GRANULES * dirty.page ≤ granule) × (granule < PAGE_GRANULES * (dirty.page + 1)) }
         requires marked { Has self.now.marker.now.marks granule }
         ensures serves { GoesOnServing (pause_view self.now) helper.old helper.new }
         ensures read { (number : ℕ) → AreObjectsRead (pause_view self.now) (view helper.new.claimer) helper.new.carried helper.old.place number granule (granule + 1) }
     {
         let base = FIRST_ADDRESS + GRANULE_BYTES * granule as u64;
-        let Some(found) = object_from(page, block, base) else {
+        let Some(found) = object_from(dirty.page, dirty.block, base) else {
             return;
         };
         // The block's objects end on its page, so that all their words are read as one run.
-        self.read_run(gate, helper, found, 0, u64::from(found.len));
+        let whole = Piece {
+            found,
+            first: 0,
+            count: u64::from(found.len),
+        };
+        self.read_run(gate, helper, whole);
     }
 
     // Reads the words of the objects of a block that begin at the 64 granules from 64 j on, were marked before the helpers
     // started and are the helper's to read.
-    fn read_marked<G: Gate>(
-        &self,
-        gate: &G,
-        helper: &mut Helper,
-        page: PageNo,
-        block: &Block,
-        j: usize,
-        number: usize,
-    )
+    fn read_marked<G: Gate>(&self, gate: &G, helper: &mut Helper, dirty: DirtyBlock, j: usize)
         requires serving { IsServing (pause_view self.now) helper.old }
-        requires inside { page < length self.now.map.now }
-        requires cut { state_at self.now.map.now page ≡ cut block.now }
-        requires normal { block.now.kind ≡ Normal }
-        requires on { (PAGE_GRANULES * page ≤ 64 * j) × (64 * (j + 1) ≤ PAGE_GRANULES * (page + 1)) }
-        requires few { number ≤ MOST_PAGES }
+        requires inside { dirty.page < length self.now.map.now }
+        requires cut { state_at self.now.map.now dirty.page ≡ cut dirty.block.now }
+        requires normal { dirty.block.now.kind ≡ Normal }
+        requires on { (PAGE_GRANULES * dirty.page ≤ 64 * j) × (64 * (j + 1) ≤ PAGE_GRANULES * (dirty.page + 1)) }
+        requires few { dirty.number ≤ MOST_PAGES }
         ensures serves { GoesOnServing (pause_view self.now) helper.old helper.new }
-        ensures read { AreObjectsRead (pause_view self.now) (view helper.new.claimer) helper.new.carried helper.old.place number (64 * j) (64 * (j + 1)) }
+        ensures read { AreObjectsRead (pause_view self.now) (view helper.new.claimer) helper.new.carried helper.old.place dirty.entry.number (64 * j) (64 * (j + 1)) }
     {
-        let own = self.own_marks(helper, j, number);
+        let own = self.own_marks(helper, j, dirty.number);
         let mut rest = own;
         while rest != 0 {
             let granule = 64 * j + rest.trailing_zeros() as usize;
-            self.read_at(gate, helper, page, block, granule);
+            self.read_at(gate, helper, dirty, granule);
             rest &= rest - 1;
         }
     }
 
     // Reads the words on a page that is cut of all objects that were marked Normal ones before the helpers started.
-    fn read_cells<G: Gate>(
-        &self,
-        gate: &G,
-        helper: &mut Helper,
-        page: PageNo,
-        block: &Block,
-        number: usize,
-    )
+    fn read_cells<G: Gate>(&self, gate: &G, helper: &mut Helper, dirty: DirtyBlock)
         requires serving { IsServing (pause_view self.now) helper.old }
-        requires inside { page < length self.now.map.now }
-        requires cut { state_at self.now.map.now page ≡ cut block.now }
-        requires few { number ≤ MOST_PAGES }
+        requires inside { dirty.page < length self.now.map.now }
+        requires cut { state_at self.now.map.now dirty.page ≡ cut dirty.block.now }
+        requires few { dirty.number ≤ MOST_PAGES }
         ensures serves { GoesOnServing (pause_view self.now) helper.old helper.new }
-        ensures read { IsPageRead (pause_view self.now) (view helper.new.claimer) helper.new.carried helper.old.place number page }
+        ensures read { IsPageRead (pause_view self.now) (view helper.new.claimer) helper.new.carried helper.old.place dirty.entry.number dirty.entry.page }
     {
-        if block.kind() == Kind::PointerFree {
+        if dirty.block.kind() == Kind::PointerFree {
             return;
         }
-        let first = MARK_WORDS * page as usize;
+        let first = MARK_WORDS * dirty.page as usize;
         for j in first..first + MARK_WORDS {
-            self.read_marked(gate, helper, page, block, j, number);
+            self.read_marked(gate, helper, dirty, j);
         }
     }
 
@@ -177,7 +161,14 @@ impl<'a> Pause<'a> {
         ensures read { IsPageRead (pause_view self.now) (view helper.new.claimer) helper.new.carried helper.old.place number page }
     {
         match self.map.block(page) {
-            Some(block) => self.read_cells(gate, helper, page, block, number),
+            Some(block) => {
+                let dirty = DirtyBlock {
+                    page,
+                    block,
+                    number,
+                };
+                self.read_cells(gate, helper, dirty);
+            }
             None => self.read_objects(gate, helper, page, number),
         }
     }

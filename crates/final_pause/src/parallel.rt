@@ -13,14 +13,14 @@ ghost use Rattle.final_pause.specs.Serving.{IsServing, HasServed};
 use crate::alone::close_marks;
 use crate::before::mark_before_helpers;
 use crate::gate::Gate;
+use crate::graph::Graph;
 use crate::helper::Helper;
 use crate::helpers::Helpers;
 use crate::round::Round;
 use crate::share::Pause;
-use block_map::BlockMap;
 use each_law::{Law, run_each};
 use marker::Marker;
-use pages::{Memory, Reader};
+use pages::Reader;
 use std::alloc::{AllocError, Global};
 use std::marker::Sync;
 use std::sync::Wait;
@@ -62,27 +62,25 @@ fn mark_with_helpers<R: Threads + Wait + Sync, G: Gate>(
     rt: &R,
     alloc: Global,
     marker: &mut Marker,
-    map: &BlockMap,
-    memory: &Memory,
-    roots: &[u64],
+    graph: Graph,
     helpers: Helpers,
     gate: &G,
 ) -> bool
-    requires pages { length marker.old.dirty ≡ length map.now }
-    requires memory { length memory.now ≡ PAGE_WORDS * length map.now }
-    ensures traces { Traces (found_in map.now) memory.now roots.now marker.old marker.new }
-    ensures roots { result ≡ true → AreRootsMarked (found_in map.now) roots.now marker.new }
+    requires pages { length marker.old.dirty ≡ length graph.map.now }
+    requires memory { length graph.memory.now ≡ PAGE_WORDS * length graph.map.now }
+    ensures traces { Traces (found_in graph.entry.map.now) graph.entry.memory.now graph.entry.roots.now marker.old marker.new }
+    ensures roots { result ≡ true → AreRootsMarked (found_in graph.entry.map.now) graph.entry.roots.now marker.new }
     ensures unchanged { result ≡ false → marker.new ≡ marker.old }
 {
     marker.laws();
-    let Ok((round, crew)) = Round::deal(alloc, marker, map, map.len(), helpers) else {
+    let Ok((round, crew)) = Round::deal(alloc, marker, graph.map, graph.map.len(), helpers) else {
         return false;
     };
-    let pause = round.pause(marker, map, memory, roots);
+    let pause = round.pause(marker, graph);
     let Ok(crew) = help_each(rt, alloc, &pause, gate, crew) else {
         return false;
     };
-    round.gather(marker, map, memory, roots, crew);
+    round.gather(marker, graph, crew);
     true
 }
 
@@ -93,24 +91,22 @@ pub fn close_marks_with<R: Threads + Wait + Sync, G: Gate>(
     rt: &R,
     alloc: Global,
     marker: &mut Marker,
-    map: &BlockMap,
-    memory: &Memory,
-    roots: &[u64],
+    graph: Graph,
     helpers: Helpers,
     gate: &G,
 )
-    requires pages { length marker.old.dirty ≡ length map.now }
-    requires memory { length memory.now ≡ PAGE_WORDS * length map.now }
-    requires objects { AreMarksObjects (found_in map.now) marker.old }
-    requires invariant { DirtyPageInvariant (found_in map.now) memory.now marker.old }
-    ensures closure { AreClosed (found_in map.now) memory.now roots.now marker.old marker.new }
+    requires pages { length marker.old.dirty ≡ length graph.map.now }
+    requires memory { length graph.memory.now ≡ PAGE_WORDS * length graph.map.now }
+    requires objects { AreMarksObjects (found_in graph.map.now) marker.old }
+    requires invariant { DirtyPageInvariant (found_in graph.map.now) graph.memory.now marker.old }
+    ensures closure { AreClosed (found_in graph.entry.map.now) graph.entry.memory.now graph.entry.roots.now marker.old marker.new }
     ensures done { IsDone marker.new }
-    ensures traces { Traces (found_in map.now) memory.now roots.now marker.old marker.new }
+    ensures traces { Traces (found_in graph.entry.map.now) graph.entry.memory.now graph.entry.roots.now marker.old marker.new }
 {
-    if mark_before_helpers(marker, map, memory, roots, helpers) {
+    if mark_before_helpers(marker, graph, helpers) {
         return;
     }
-    mark_with_helpers(rt, alloc, marker, map, memory, roots, helpers, gate);
-    let mut reader = Reader::new(memory);
-    close_marks(marker, map, &mut reader, roots);
+    mark_with_helpers(rt, alloc, marker, graph, helpers, gate);
+    let mut reader = Reader::new(graph.memory);
+    close_marks(marker, graph.map, &mut reader, graph.roots);
 }

@@ -14,6 +14,7 @@ ghost use Rattle.final_pause.specs.Rounds.{round_view, IsRound, IsFresh, AreServ
 
 use crate::crew::{gather, hire};
 use crate::gate::Open;
+use crate::graph::Graph;
 use crate::helper::Helper;
 use crate::helpers::Helpers;
 use crate::share::Pause;
@@ -21,7 +22,6 @@ use block_map::BlockMap;
 use dirty_pages::DirtyPages;
 use mark_bits::{Claimer, MarkTable};
 use marker::Marker;
-use pages::Memory;
 use std::alloc::{AllocError, Global};
 use words::PageNo;
 
@@ -86,21 +86,15 @@ impl Round {
     }
 
     // What the helpers share.
-    pub(crate) fn pause<'a>(
-        &'a self,
-        marker: &'a Marker,
-        map: &'a BlockMap,
-        memory: &'a Memory,
-        roots: &'a [u64],
-    ) -> Pause<'a>
-        ensures { pause_view result ≡ round_view self.now marker.now map.now memory.now roots.now }
+    pub(crate) fn pause<'a>(&'a self, marker: &'a Marker, graph: Graph<'a>) -> Pause<'a>
+        ensures { pause_view result ≡ round_view self.now marker.now graph.entry.map.now graph.entry.memory.now graph.entry.roots.now }
     {
         Pause {
             table: &self.table,
             marker,
-            map,
-            memory,
-            roots,
+            map: graph.map,
+            memory: graph.memory,
+            roots: graph.roots,
             helpers: usize::from(self.helpers),
         }
     }
@@ -109,41 +103,26 @@ impl Round {
     /// of objects that it was the first to mark, it leaves the others to their pages, which become dirty. What an entry's object
     /// that is longer than a page leads to is left to its pages at once, unless `most` is near `u64::MAX`. Answers how many words it
     /// read of objects that it was the first to mark. It takes no memory.
-    pub fn help(
-        &self,
-        marker: &Marker,
-        map: &BlockMap,
-        memory: &Memory,
-        roots: &[u64],
-        most: u64,
-        helper: &mut Helper,
-    ) -> u64
-        requires { IsServing (round_view self.now marker.now map.now memory.now roots.now) helper.old }
-        ensures served { HasServed (round_view self.now marker.now map.now memory.now roots.now) helper.old.place helper.new }
+    pub fn help(&self, marker: &Marker, graph: Graph, most: u64, helper: &mut Helper) -> u64
+        requires { IsServing (round_view self.now marker.now graph.map.now graph.memory.now graph.roots.now) helper.old }
+        ensures served { HasServed (round_view self.now marker.now graph.entry.map.now graph.entry.memory.now graph.entry.roots.now) helper.old.place helper.new }
         ensures few { result ≤ most }
     {
         helper.left = most;
-        self.pause(marker, map, memory, roots).help(&Open, helper);
+        self.pause(marker, graph).help(&Open, helper);
         most.saturating_sub(helper.left)
     }
 
     /// Puts together what the helpers won and left, of whom each has done its share: no entry is left, and dirty are pages of newly
     /// marked objects alone.
-    pub fn gather(
-        self,
-        marker: &mut Marker,
-        map: &BlockMap,
-        memory: &Memory,
-        roots: &[u64],
-        crew: Vec<Helper>,
-    )
-        requires round { IsRound (round_view self marker.old map.now memory.now roots.now) self }
+    pub fn gather(self, marker: &mut Marker, graph: Graph, crew: Vec<Helper>)
+        requires round { IsRound (round_view self marker.old graph.map.now graph.memory.now graph.roots.now) self }
         requires all { vec_len crew ≡ self.helpers }
-        requires served { AreServed (round_view self marker.old map.now memory.now roots.now) 0 crew.items }
-        ensures traces { Traces (found_in map.now) memory.now roots.now marker.old marker.new }
-        ensures roots { AreRootsMarked (found_in map.now) roots.now marker.new }
+        requires served { AreServed (round_view self marker.old graph.map.now graph.memory.now graph.roots.now) 0 crew.items }
+        ensures traces { Traces (found_in graph.entry.map.now) graph.entry.memory.now graph.entry.roots.now marker.old marker.new }
+        ensures roots { AreRootsMarked (found_in graph.entry.map.now) graph.entry.roots.now marker.new }
         ensures empty { IsEmpty marker.new }
-        ensures dirty { DirtiesNew (found_in map.now) marker.old marker.new }
+        ensures dirty { DirtiesNew (found_in graph.entry.map.now) marker.old marker.new }
     {
         marker.laws();
         let Round {
@@ -156,9 +135,9 @@ impl Round {
         let pause = Pause {
             table: &table,
             marker,
-            map,
-            memory,
-            roots,
+            map: graph.map,
+            memory: graph.memory,
+            roots: graph.roots,
             helpers: usize::from(helpers),
         };
         gather(&pause, &mut first, &mut dirty, &mut carried, crew);

@@ -12,6 +12,7 @@ ghost use Rattle.final_pause.specs.Serving.{IsServing, GoesOnServing, HasServed,
 
 use crate::gate::Gate;
 use crate::helper::{Helper, carry, claim, put_off, queue};
+use crate::piece::Piece;
 use block_map::{BlockMap, Found};
 use mark_bits::MarkTable;
 use marker::Marker;
@@ -125,50 +126,40 @@ impl<'a> Pause<'a> {
         stray
     }
 
-    /// Marks what words of an object point into: so many, from its word `first` on, which stand on one page. The page is
-    /// carried if one of them is stray.
-    pub(crate) fn read_run<G: Gate>(
-        &self,
-        gate: &G,
-        helper: &mut Helper,
-        found: Found,
-        first: u32,
-        count: u64,
-    )
+    /// Marks what words of an object point into, which stand on one page. The page is carried if one of them is stray.
+    pub(crate) fn read_run<G: Gate>(&self, gate: &G, helper: &mut Helper, piece: Piece)
         requires fits { IsHelperOf (pause_view self.now) helper.old }
-        requires object { IsObjectOf (pause_view self.now) found }
-        requires inside { first + count ≤ found.len }
-        requires one_page { (i : ℕ) → first ≤ i → i < first + count → page_of (word_address found i) ≡ page_of (word_address found first) }
-        ensures { ReadsWords (pause_view self.now) found first count helper.old helper.new }
+        requires object { IsObjectOf (pause_view self.now) piece.found }
+        requires inside { piece.first + piece.count ≤ piece.found.len }
+        requires one_page { (i : ℕ) → piece.first ≤ i → i < piece.first + piece.count → page_of (word_address piece.found i) ≡ page_of (word_address piece.found piece.first) }
+        ensures { ReadsWords (pause_view self.now) piece.found piece.first piece.count helper.old helper.new }
     {
-        let start = found.base + WORD_BYTES * u64::from(first);
+        let start = piece.found.base + WORD_BYTES * u64::from(piece.first);
         let mut reader = Reader::new(self.memory);
-        if self.visit_all(gate, helper, reader.read_run(start, count)) {
+        if self.visit_all(gate, helper, reader.read_run(start, piece.count)) {
             carry(helper, page_of(start) as PageNo);
         }
     }
 
-    // Marks what words of an object point into, page by page: so many, from its word `first` on.
-    pub(crate) fn read_words<G: Gate>(
-        &self,
-        gate: &G,
-        helper: &mut Helper,
-        found: Found,
-        first: u32,
-        count: u64,
-    )
+    // Marks what words of an object point into, page by page.
+    pub(crate) fn read_words<G: Gate>(&self, gate: &G, helper: &mut Helper, piece: Piece)
         requires fits { IsHelperOf (pause_view self.now) helper.old }
-        requires object { IsObjectOf (pause_view self.now) found }
-        requires inside { first + count ≤ found.len }
-        ensures { ReadsWords (pause_view self.now) found first count helper.old helper.new }
+        requires object { IsObjectOf (pause_view self.now) piece.found }
+        requires inside { piece.first + piece.count ≤ piece.found.len }
+        ensures { ReadsWords (pause_view self.now) piece.found piece.first piece.count helper.old helper.new }
     {
         let mut done = 0;
-        while done < count {
-            let next = first + done as u32;
-            let address = found.base + WORD_BYTES * u64::from(next);
+        while done < piece.count {
+            let next = piece.first + done as u32;
+            let address = piece.found.base + WORD_BYTES * u64::from(next);
             let on_page = (PAGE_BYTES - address % PAGE_BYTES) / WORD_BYTES;
-            let run = on_page.min(count - done);
-            self.read_run(gate, helper, found, next, run);
+            let run = on_page.min(piece.count - done);
+            let on_one_page = Piece {
+                found: piece.found,
+                first: next,
+                count: run,
+            };
+            self.read_run(gate, helper, on_one_page);
             done += run;
         }
     }
@@ -201,7 +192,12 @@ impl<'a> Pause<'a> {
                 put_off(helper, found);
             } else {
                 helper.left -= words;
-                self.read_words(gate, helper, found, 0, words);
+                let whole = Piece {
+                    found,
+                    first: 0,
+                    count: words,
+                };
+                self.read_words(gate, helper, whole);
             }
         }
     }

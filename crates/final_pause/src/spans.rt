@@ -18,8 +18,8 @@ ghost use Rattle.final_pause.specs.Pauses.{pause_view};
 
 use crate::gate::Gate;
 use crate::helper::{Helper, carry};
+use crate::piece::Piece;
 use crate::share::Pause;
-use block_map::Found;
 use pages::{Reader, Words};
 use words::limits::{PAGE_BYTES, WORD_BYTES};
 use words::{PageNo, page_of};
@@ -88,25 +88,18 @@ impl<'a> Pause<'a> {
         stray
     }
 
-    /// Marks what those words of an object point into that are the helper's: of so many, from its word `first` on, which stand
-    /// on one page. The page is carried if one of them is stray.
-    pub(crate) fn read_own<G: Gate>(
-        &self,
-        gate: &G,
-        helper: &mut Helper,
-        found: Found,
-        first: u32,
-        count: u64,
-    )
+    /// Marks what those of some words of an object point into that are the helper's. All stand on one page, which is carried if
+    /// one of them is stray.
+    pub(crate) fn read_own<G: Gate>(&self, gate: &G, helper: &mut Helper, piece: Piece)
         requires fits { IsHelperOf (pause_view self.now) helper.old }
-        requires object { IsObjectOf (pause_view self.now) found }
-        requires inside { first + count ≤ found.len }
-        requires one_page { (i : ℕ) → first ≤ i → i < first + count → page_of (word_address found i) ≡ page_of (word_address found first) }
-        ensures { ReadsOwn (pause_view self.now) found first count helper.old helper.new }
+        requires object { IsObjectOf (pause_view self.now) piece.found }
+        requires inside { piece.first + piece.count ≤ piece.found.len }
+        requires one_page { (i : ℕ) → piece.first ≤ i → i < piece.first + piece.count → page_of (word_address piece.found i) ≡ page_of (word_address piece.found piece.first) }
+        ensures { ReadsOwn (pause_view self.now) piece.found piece.first piece.count helper.old helper.new }
     {
-        let start = found.base + WORD_BYTES * u64::from(first);
+        let start = piece.found.base + WORD_BYTES * u64::from(piece.first);
         let mut reader = Reader::new(self.memory);
-        if self.visit_all_own(gate, helper, reader.read_run(start, count)) {
+        if self.visit_all_own(gate, helper, reader.read_run(start, piece.count)) {
             carry(helper, page_of(start) as PageNo);
         }
     }

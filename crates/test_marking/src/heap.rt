@@ -1,7 +1,7 @@
 //! A heap under a marker. Each call looks first whether its conditions hold, and answers whether they did.
 use crate::coming::{large_at, receive};
 use block_map::{BlockMap, Found};
-use final_pause::{Gate, Helpers, close_marks_with};
+use final_pause::{Gate, Graph, Helpers, close_marks_with};
 use fixtures::{are_free, small_class};
 use marker::{Marked, Marker};
 use pages::{Memory, Reader};
@@ -165,15 +165,11 @@ impl Heap {
         helpers: Helpers,
         gate: &G,
     ) {
-        close_marks_with(
-            rt,
-            alloc,
-            &mut self.marker,
-            &self.map,
-            &self.memory,
+        let graph = Graph {
+            map: &self.map,
+            memory: &self.memory,
             roots,
-            helpers,
-            gate,
-        );
+        };
+        close_marks_with(rt, alloc, &mut self.marker, graph, helpers, gate);
     }
 }

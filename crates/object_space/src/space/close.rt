@@ -9,7 +9,7 @@ ghost use Rattle.marker.specs.Marking.{AreMarksObjects, IsDone};
 ghost use Rattle.marker.specs.Work.{dirty_pages, newly_pages, entry_words};
 
 use super::ObjectSpace;
-use final_pause::{Gate, Helpers, close_marks, close_marks_with};
+use final_pause::{Gate, Graph, Helpers, close_marks, close_marks_with};
 use marker::Marker;
 use pages::{Count, Reader};
 use std::alloc::Global;
@@ -59,15 +59,11 @@ impl ObjectSpace {
         ensures lawful { IsLawful self.now.states }
     {
         self.table.map.laws();
-        close_marks_with(
-            rt,
-            alloc,
-            marker,
-            &self.table.map,
-            &self.memory,
+        let graph = Graph {
+            map: &self.table.map,
+            memory: &self.memory,
             roots,
-            helpers,
-            gate,
-        );
+        };
+        close_marks_with(rt, alloc, marker, graph, helpers, gate);
     }
 }

@@ -11,7 +11,7 @@ ghost use Rattle.final_pause.specs.Serving.{IsServing, HasServed};
 ghost use Rattle.final_pause.specs.Rounds.{round_view, IsRound, IsFresh, AreServing, AreServed, DirtiesNew};
 
 use super::ObjectSpace;
-use final_pause::{Helper, Helpers, Round};
+use final_pause::{Graph, Helper, Helpers, Round};
 use marker::Marker;
 use std::alloc::{AllocError, Global};
 use words::PageNo;
@@ -48,7 +48,12 @@ impl ObjectSpace {
         ensures served { HasServed (round_view round.now marker.now self.now.states self.now.words []) helper.old.place helper.new }
         ensures few { result ≤ most }
     {
-        round.help(marker, &self.table.map, &self.memory, &[], most, helper)
+        let graph = Graph {
+            map: &self.table.map,
+            memory: &self.memory,
+            roots: &[],
+        };
+        round.help(marker, graph, most, helper)
     }
 
     /// Puts together what the helpers won and left, of whom each has done its share.
@@ -62,6 +67,11 @@ impl ObjectSpace {
         ensures lawful { IsLawful self.now.states }
     {
         self.table.map.laws();
-        round.gather(marker, &self.table.map, &self.memory, &[], crew);
+        let graph = Graph {
+            map: &self.table.map,
+            memory: &self.memory,
+            roots: &[],
+        };
+        round.gather(marker, graph, crew);
     }
 }

@@ -8,4 +8,4 @@ use Rattle.final_pause.proofs.share.Pause.read_cells.Given as goal
 abbrev pub invariant-loop-j : goal.invariant-loop-j
 invariant-loop-j g l =
     GoesOnServing (pause_view l.self) l.fn.helper l.helper
-    × AreObjectsRead (pause_view l.self) (view l.helper.claimer) l.helper.carried l.fn.helper.place l.number (PAGE_GRANULES * l.page) (64 * l.j)
+    × AreObjectsRead (pause_view l.self) (view l.helper.claimer) l.helper.carried l.fn.helper.place l.dirty.number (PAGE_GRANULES * l.dirty.page) (64 * l.j)

@@ -20,7 +20,7 @@ loop-rest-init g c =
       serves_refl p h c.requires.serving,
       0,
       rest_all _,
-      objects_none p c.requires.serving.fits.ready.map (view h.claimer) h.carried h.place c.args.number (64 * c.args.j) (64 * c.args.j + 0) (λ k from below. absurd (omega arith)),
+      objects_none p c.requires.serving.fits.ready.map (view h.claimer) h.carried h.place c.args.dirty.number (64 * c.args.j) (64 * c.args.j + 0) (λ k from below. absurd (omega arith)),
     )
 
 pub read_at-requires-clause-on : goal.read_at-requires-clause-on
@@ -33,7 +33,7 @@ pub read_at-requires-clause-marked : goal.read_at-requires-clause-marked
 read_at-requires-clause-marked g c κs within =
     let p = pause_view c.args.self.now in let i = c.loop-rest.invariant in let some : 0 < c.loop-rest.rest = (let ne = c.loop-rest-test.true in omega arith) in
     let first = rest_first _ _ _ i.2 some (omega arith) in
-    own_mark p c.args.helper.now.place c.args.number c.args.j c.own_marks-own.result c.own_marks-own.ensures _ first.inside first.here
+    own_mark p c.args.helper.now.place c.args.dirty.number c.args.j c.own_marks-own.result c.own_marks-own.ensures _ first.inside first.here
 
 pub loop-rest-preserved : goal.loop-rest-preserved
 loop-rest-preserved g c =
@@ -45,9 +45,9 @@ loop-rest-preserved g c =
       serves_trans p c.args.helper.now h h' i.0 e.serves,
       t + 1,
       rest_more _ _ _ i.2 some (omega arith),
-      objects_next p map (view h.claimer) (view h'.claimer) h.carried h'.carried e.serves.learns.known e.serves.carried place c.args.number (64 * c.args.j) (64 * c.args.j + i.1) (64 * c.args.j + t) (64 * c.args.j + (t + 1)) (omega arith)
-          (no_own p place c.args.number c.args.j c.own_marks-own.result c.own_marks-own.ensures i.1 t (omega arith) first.least)
-          i.3 (subst (λ (n : ℕ). AreObjectsRead p (view h'.claimer) h'.carried n c.args.number (64 * c.args.j + t) (64 * c.args.j + t + 1)) i.0.place (e.read c.args.number)),
+      objects_next p map (view h.claimer) (view h'.claimer) h.carried h'.carried e.serves.learns.known e.serves.carried place c.args.dirty.number (64 * c.args.j) (64 * c.args.j + i.1) (64 * c.args.j + t) (64 * c.args.j + (t + 1)) (omega arith)
+          (no_own p place c.args.dirty.number c.args.j c.own_marks-own.result c.own_marks-own.ensures i.1 t (omega arith) first.least)
+          i.3 (subst (λ (n : ℕ). AreObjectsRead p (view h'.claimer) h'.carried n c.args.dirty.number (64 * c.args.j + t) (64 * c.args.j + t + 1)) i.0.place (e.read c.args.dirty.number)),
     )
 
 pub returns-clause-read : goal.returns-clause-read
@@ -55,6 +55,6 @@ returns-clause-read g c =
     let p = pause_view c.args.self.now in let map = c.requires.serving.fits.ready.map in let i = c.loop-rest.invariant in let h = c.loop-rest.helper in
     let place = c.args.helper.now.place in
     let none = rest_none _ _ _ c.loop-rest-test.false i.2 in let few = i.2.few in
-    objects_append p map (view h.claimer) h.carried place c.args.number (64 * c.args.j) (64 * c.args.j + i.1) (64 * (c.args.j + 1)) i.3
-    (objects_none p map (view h.claimer) h.carried place c.args.number (64 * c.args.j + i.1) (64 * (c.args.j + 1))
-    (λ k from below. no_own p place c.args.number c.args.j c.own_marks-own.result c.own_marks-own.ensures i.1 64 (omega arith) none.none k from (omega arith)))
+    objects_append p map (view h.claimer) h.carried place c.args.dirty.number (64 * c.args.j) (64 * c.args.j + i.1) (64 * (c.args.j + 1)) i.3
+    (objects_none p map (view h.claimer) h.carried place c.args.dirty.number (64 * c.args.j + i.1) (64 * (c.args.j + 1))
+    (λ k from below. no_own p place c.args.dirty.number c.args.j c.own_marks-own.result c.own_marks-own.ensures i.1 64 (omega arith) none.none k from (omega arith)))

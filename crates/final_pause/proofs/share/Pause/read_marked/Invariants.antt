@@ -10,7 +10,7 @@ invariant-loop-rest g l =
     GoesOnServing (pause_view l.self) l.fn.helper l.helper
     × (from : ℕ)
     × IsRest l.own l.rest from
-    × AreObjectsRead (pause_view l.self) (view l.helper.claimer) l.helper.carried l.fn.helper.place l.number (64 * l.j) (64 * l.j + from)
+    × AreObjectsRead (pause_view l.self) (view l.helper.claimer) l.helper.carried l.fn.helper.place l.dirty.number (64 * l.j) (64 * l.j + from)
 
 abbrev pub decreases-loop-rest : goal.decreases-loop-rest
 decreases-loop-rest g l = l.rest

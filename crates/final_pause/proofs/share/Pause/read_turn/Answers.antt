@@ -13,5 +13,5 @@ page_of-requires-2 g c = (c.requires.serving.fits.ready.map.placed _ _ c.require
 pub make_room-requires-after_bounds : goal.make_room-requires-after_bounds
 make_room-requires-after_bounds g c κs within =
     let p = pause_view c.args.self.now in
-    (serves_words p c.requires.serving.fits.ready.map c.args.found c.args.first c.args.count c.args.helper.now c.read_run.new.helper
+    (serves_words p c.requires.serving.fits.ready.map c.args.piece.found c.args.piece.first c.args.piece.count c.args.helper.now c.read_run.new.helper
     (held c.requires.object c.requires.marked) c.requires.normal c.read_run.ensures c.requires.serving).serving

@@ -5,7 +5,7 @@ use Rattle.final_pause.proofs.Serving.{fits_more}
 use Rattle.final_pause.proofs.share.Pause.read_words.Goals as goal
 
 pub loop-done-init : goal.loop-done-init
-loop-done-init g c = record { reads = reads_none (pause_view c.args.self.now) c.args.found c.args.first c.args.helper.now c.requires.fits.of; within = omega arith }
+loop-done-init g c = record { reads = reads_none (pause_view c.args.self.now) c.args.piece.found c.args.piece.first c.args.helper.now c.requires.fits.of; within = omega arith }
 
 pub overflow_add-address : goal.overflow_add-address
 overflow_add-address g c =
@@ -23,7 +23,7 @@ read_run-requires-clause-one_page g c κs within i from below =
 
 pub loop-done-preserved : goal.loop-done-preserved
 loop-done-preserved g c = record {
-  reads = reads_append (pause_view c.args.self.now) c.args.found c.args.first c.loop-done.done (c.args.first + c.loop-done.done) c.min-run.result c.args.helper.now c.loop-done.helper c.read_run.new.helper (omega arith)
+  reads = reads_append (pause_view c.args.self.now) c.args.piece.found c.args.piece.first c.loop-done.done (c.args.piece.first + c.loop-done.done) c.min-run.result c.args.helper.now c.loop-done.helper c.read_run.new.helper (omega arith)
       c.loop-done.invariant.reads c.read_run.ensures;
   within = (let m = c.min-run.ensures in let b = c.loop-done.invariant.within in omega arith);
 }
