@@ -11,5 +11,6 @@ mod object;
 pub mod quiet;
 mod ranges;
 
+pub use heap::many::Request;
 pub use heap::shares::{NotLent, Shares};
 pub use heap::{Core, Limits};

@@ -7,6 +7,7 @@ ghost use Rattle.mpheap_c.specs.Many.{IsManyCall};
 
 use crate::heap::Heap;
 use crate::status::{BAD_NUMBER, done};
+use heap_core::Request;
 use words::{Kind, Reg, Slot};
 
 /// Allocates objects of at least so many words, all 0, one after the other, as many as there is room for bases, and puts the base of
@@ -27,10 +28,12 @@ pub extern "C" fn mpheap_alloc_many(
     let (Some(slot), Some(into)) = (Slot::new(slot), Reg::new(into)) else {
         return BAD_NUMBER;
     };
-    done(
-        heap.core()
-            .alloc_many(slot, into, words, Kind::Normal, bases, count),
-    )
+    let request = Request {
+        into,
+        words,
+        kind: Kind::Normal,
+    };
+    done(heap.core().alloc_many(slot, &request, bases, count))
 }
 
 /// The same of objects whose words the collector never reads.
@@ -50,8 +53,10 @@ pub extern "C" fn mpheap_alloc_pointer_free_many(
     let (Some(slot), Some(into)) = (Slot::new(slot), Reg::new(into)) else {
         return BAD_NUMBER;
     };
-    done(
-        heap.core()
-            .alloc_many(slot, into, words, Kind::PointerFree, bases, count),
-    )
+    let request = Request {
+        into,
+        words,
+        kind: Kind::PointerFree,
+    };
+    done(heap.core().alloc_many(slot, &request, bases, count))
 }

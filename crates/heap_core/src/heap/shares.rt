@@ -1,13 +1,11 @@
 //! The marking of a cycle by helpers whom the caller runs: the core is lent to a round of them, shares go to other threads and come back,
-//! and what they won and left is put together.
-ghost use Rattle.std.specs.Prelude.{◌≡◌, ℕ, ◌*◌, ◌<◌, ◌≤◌, ◌⊎◌, true, false, IfOk, IfErr, OnOk, MatchOption, length, vec_len, slice_index_or};
-ghost use Rattle.final_pause.specs.declared.helper.Helper.{Helper as HelperValue};
-ghost use Rattle.final_pause.specs.Serving.{IsServing, HasServed};
-ghost use Rattle.final_pause.specs.Rounds.{IsRound, IsFresh, AreServing, AreServed};
-ghost use Rattle.heap_core.specs.Sharing.{core_view, IsSameRound, IsDealt, IsLastOut, AreNext, IsAppended, AreDone, AreAll, IsStillOut, MarksTogether};
+//! and the core is had again.
+ghost use Rattle.std.specs.Prelude.{◌≡◌, ◌*◌, ◌<◌, ◌≤◌, ◌⊎◌, true, false, IfOk, IfErr, OnOk, MatchOption, length};
+ghost use Rattle.heap_core.specs.Sharing.{IsSameRound, IsDealt, IsLastOut, AreNext, IsAppended, AreDone, AreAll, IsStillOut, MarksTogether};
 
 use super::Core;
-use final_pause::{Helper, Helpers, Round};
+use super::lent::{Lent, help_all};
+use final_pause::{Helper, Helpers};
 use std::alloc::{AllocError, Global};
 use std::marker::Model;
 use std::sync::Arc;
@@ -20,13 +18,6 @@ pub enum NotLent {
 
     /// A growth of memory was refused.
     Memory,
-}
-
-/// A core that is lent to the helpers of a round.
-#[derive(Drop)]
-struct Lent {
-    core: Box<Core>,
-    round: Round,
 }
 
 /// Shares of a round over a core, of places in a row. Those of one round may go to several threads.
@@ -48,54 +39,6 @@ impl Model for Shares {
     ghost view = { λ s. record { core = (arc_value s.lent).core.value; round = (arc_value s.lent).round; crew = s.crew.items; from = s.from; is_done = s.is_done } };
 
     ghost invariant = { λ s. IsSharing (record { core = (arc_value s.lent).core.value; round = (arc_value s.lent).round; crew = s.crew.items; from = s.from; is_done = s.is_done }) (vec_capacity s.crew) };
-}
-
-impl Core {
-    // Deals all that waits to be read to so many helpers.
-    fn deal(&self, alloc: Global, helpers: Helpers) -> Result<(Round, Vec<Helper>), AllocError>
-        ensures size { IfOk result (λ d. vec_len d.1 ≡ helpers.number) }
-        ensures number { IfOk result (λ d. d.0.helpers ≡ helpers.number) }
-        ensures round { IfOk result (λ d. IsRound (core_view self.now d.0) d.0) }
-        ensures crew { IfOk result (λ d. AreServing (core_view self.now d.0) 0 d.1.items) }
-        ensures fresh { IfOk result (λ d. IsFresh (length self.now.store.states) d.0 d.1.items) }
-    {
-        let used = self.objects.used();
-        self.objects.deal(alloc, &self.marker, used, helpers)
-    }
-
-    // Does a helper's share, and answers how many words it read.
-    fn help(&self, round: &Round, most: u64, helper: &mut Helper) -> u64
-        requires { IsServing (core_view self.now round.now) helper.old }
-        ensures served { HasServed (core_view self.now round.now) helper.old.place helper.new }
-        ensures few { result ≤ most }
-    {
-        self.objects.help(round, &self.marker, most, helper)
-    }
-
-    // Puts together what the helpers won and left.
-    fn gather(&mut self, round: Round, crew: Vec<Helper>)
-        requires marking { self.old.cycle.is_marking ≡ true }
-        requires round { IsRound (core_view self.old round) round }
-        requires all { vec_len crew ≡ round.helpers }
-        requires served { AreServed (core_view self.old round) 0 crew.items }
-        ensures { MarksTogether self.old self.new }
-    {
-        self.objects.gather(round, &mut self.marker, crew);
-    }
-}
-
-// Does the shares of all these helpers, and answers how many words they read.
-fn help_all(lent: &Lent, most: u64, crew: &mut [Helper]) -> u64
-    requires { (i : ℕ) (d : HelperValue) → i < length crew.old → IsServing (core_view lent.now.core.value lent.now.round) (slice_index_or crew.old i d) }
-    ensures len { length crew.new ≡ length crew.old }
-    ensures few { result ≤ most * length crew.old }
-    ensures served { (i : ℕ) (d : HelperValue) → i < length crew.old → HasServed (core_view lent.now.core.value lent.now.round) (slice_index_or crew.old i d).place (slice_index_or crew.new i d) }
-{
-    let mut read = 0u64;
-    for helper in crew {
-        read = read.saturating_add(lent.core.help(&lent.round, most, helper));
-    }
-    read
 }
 
 impl Shares {

@@ -19,7 +19,7 @@ loop-done-preserved c =
       count = refl;
       rest = λ k past. joined_rest c.loop-done.bases c.split_at_mut-rest.result.0.now c.split_at_mut-rest.result.1.now c.alloc_some.new.bases c.loop-done.done s.front s.front_len s.back a.size c.in_ok-done.field-0 a.rest k past
           ∙ i.rest k (omega arith);
-      granted = subst (λ bases. Grants c.args.slot c.args.into c.args.words c.args.kind c.args.self.now bases c.alloc_some.new.self)
+      granted = subst (λ bases. Grants c.args.slot c.args.request.now.into c.args.request.now.words c.args.request.now.kind c.args.self.now bases c.alloc_some.new.self)
           (sym (joined_take c.loop-done.bases c.split_at_mut-rest.result.0.now c.split_at_mut-rest.result.1.now c.alloc_some.new.bases c.loop-done.done s.front s.front_len s.back a.size c.in_ok-done.field-0))
           (grants_more i.granted a.grants);
     }
@@ -38,7 +38,7 @@ returns-in_err-done c =
       few = omega arith;
       rest = λ k past. joined_rest c.loop-done.bases c.split_at_mut-rest.result.0.now c.split_at_mut-rest.result.1.now c.alloc_some.new.bases c.loop-done.done s.front s.front_len s.back a.size 0 (λ j _. a.same j) k (omega arith)
           ∙ i.rest k past;
-      made = refused (omega (arith, lt, cut, whole)) (subst (λ bases. Grants c.args.slot c.args.into c.args.words c.args.kind c.args.self.now bases c.loop-done.self) (sym kept) i.granted) a.refused;
+      made = refused (omega (arith, lt, cut, whole)) (subst (λ bases. Grants c.args.slot c.args.request.now.into c.args.request.now.words c.args.request.now.kind c.args.self.now bases c.loop-done.self) (sym kept) i.granted) a.refused;
     })
 
 pub returns : goal.returns

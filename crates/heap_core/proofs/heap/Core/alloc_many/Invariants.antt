@@ -9,7 +9,7 @@ invariant-loop-done l = record {
   few : l.done ≤ length l.bases;
   count : l.count ≡ l.done;
   rest : (k : ℕ) → l.done ≤ k → get_or l.bases k 0 ≡ get_or l.initial.bases k 0;
-  granted : Grants l.slot l.into l.words l.kind l.initial.self (take l.done l.bases) l.self;
+  granted : Grants l.slot l.request.into l.request.words l.request.kind l.initial.self (take l.done l.bases) l.self;
 }
 
 abbrev pub decreases-loop-done : goal.decreases-loop-done

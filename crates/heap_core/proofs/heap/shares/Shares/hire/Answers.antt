@@ -2,7 +2,7 @@ use Rattle.std.proofs.Common.{◌≡◌, ℕ, ◌+◌, ◌++◌, ◌∷◌, [], 
 use Rattle.std.proofs.lemmas.List.{length-append}
 use Rattle.final_pause.specs.declared.helper.Helper.{Helper}
 use Rattle.final_pause.specs.Serving.{HasServed}
-use Rattle.heap_core.specs.declared.heap.shares.Lent.{Lent}
+use Rattle.heap_core.specs.declared.heap.lent.Lent.{Lent}
 use Rattle.heap_core.specs.Sharing.{IsSharing, core_view}
 use Rattle.heap_core.proofs.Sharing.{sharing, serving_front, serving_last, serving_one, served_front, served_last, served_one}
 use Rattle.heap_core.proofs.heap.shares.Shares.hire.Goals as goal

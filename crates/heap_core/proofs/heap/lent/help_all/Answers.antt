@@ -6,7 +6,7 @@ use Rattle.final_pause.specs.Serving.{IsServing, HasServed}
 use Rattle.heap_core.specs.CoreContents.{CoreContents}
 use Rattle.heap_core.specs.Sharing.{core_view}
 use Rattle.heap_core.proofs.Sharing.{few_more}
-use Rattle.heap_core.proofs.heap.shares.help_all.Goals as goal
+use Rattle.heap_core.proofs.heap.lent.help_all.Goals as goal
 
 pub help-requires : goal.help-requires
 help-requires c =

@@ -3,7 +3,7 @@ use Rattle.std.specs.Prelude.{slice_index_or}
 use Rattle.final_pause.specs.declared.helper.Helper.{Helper}
 use Rattle.final_pause.specs.Serving.{HasServed}
 use Rattle.heap_core.specs.Sharing.{core_view}
-use Rattle.heap_core.proofs.heap.shares.help_all.Given as goal
+use Rattle.heap_core.proofs.heap.lent.help_all.Given as goal
 
 abbrev pub invariant-loop-helper : goal.invariant-loop-helper
 invariant-loop-helper l = record {
