@@ -9,7 +9,7 @@ use block_map::BlockMap;
 use final_pause::{Graph, Helpers, Open, close_marks, close_marks_with};
 use fixtures::BlockSpace;
 use marker::Marker;
-use pages::{Memory, Reader};
+use pages::{Memory, Reader, Uncounted};
 use std::alloc::Global;
 use std::marker::{Model, Sync};
 use std::sync::Wait;
@@ -21,6 +21,7 @@ use words::{Kind, PageNo};
 pub(crate) struct Heap {
     space: BlockSpace,
     marker: Marker,
+    leave: Uncounted,
 }
 
 impl Model for Heap {
@@ -67,10 +68,11 @@ fn mark_in_pause<R: Threads + Wait + Sync>(
     }
     let mut reader = Reader::new(memory);
     close_marks(marker, map, &mut reader, roots);
+    reader.end_uncounted(Uncounted::new(alloc));
 }
 
 // Reads all entries and then the lowest dirty page. `None` where nothing was left to read.
-fn mark_on(marker: &mut Marker, map: &BlockMap, memory: &Memory) -> Option<u64>
+fn mark_on(marker: &mut Marker, map: &BlockMap, memory: &Memory, leave: Uncounted) -> Option<u64>
     requires pages { length marker.old.dirty ≡ length map.now }
     requires memory { length memory.now ≡ PAGE_WORDS * length map.now }
     requires objects { AreMarksObjects (found_in map.now) marker.old }
@@ -79,14 +81,22 @@ fn mark_on(marker: &mut Marker, map: &BlockMap, memory: &Memory) -> Option<u64>
 {
     let mut reader = Reader::new(memory);
     let marked = marker.step(map, &mut reader, u64::MAX);
-    if marker.retrace(map, &mut reader).is_none() && marked.read == 0 {
+    let page = marker.retrace(map, &mut reader);
+    reader.end_uncounted(leave);
+    if page.is_none() && marked.read == 0 {
         return None;
     }
     Some(marked.read)
 }
 
 // Marks all that roots reach, in steps. Answers the words that were read off entries.
-fn mark_in_steps(marker: &mut Marker, map: &BlockMap, memory: &Memory, roots: &[u64]) -> u64
+fn mark_in_steps(
+    marker: &mut Marker,
+    map: &BlockMap,
+    memory: &Memory,
+    roots: &[u64],
+    leave: Uncounted,
+) -> u64
     requires pages { length marker.old.dirty ≡ length map.now }
     requires memory { length memory.now ≡ PAGE_WORDS * length map.now }
     ensures { length marker.new.dirty ≡ length map.now }
@@ -95,7 +105,7 @@ fn mark_in_steps(marker: &mut Marker, map: &BlockMap, memory: &Memory, roots: &[
     marker.scan_roots(map, roots);
     let mut read: u64 = 0;
     for _ in 0..u64::MAX {
-        let Some(words) = mark_on(marker, map, memory) else {
+        let Some(words) = mark_on(marker, map, memory, leave) else {
             break;
         };
         read = read.wrapping_add(words);
@@ -111,7 +121,12 @@ impl Heap {
             return None;
         };
         space.cut_large(0, large, Kind::Normal);
-        Some(Heap { space, marker })
+        let leave = Uncounted::new(alloc);
+        Some(Heap {
+            space,
+            marker,
+            leave,
+        })
     }
 
     /// Cuts a page for objects of two words.
@@ -132,7 +147,13 @@ impl Heap {
     /// Begins a cycle and marks all that roots reach. Answers the words that were read off entries.
     pub(crate) fn mark(&mut self, roots: &[u64]) -> u64 {
         let map = self.space.map();
-        mark_in_steps(&mut self.marker, map, self.space.memory(), roots)
+        mark_in_steps(
+            &mut self.marker,
+            map,
+            self.space.memory(),
+            roots,
+            self.leave,
+        )
     }
 
     /// Marks all that roots reach in one pause, with so many helpers, or alone.

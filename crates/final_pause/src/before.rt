@@ -16,7 +16,7 @@ use crate::graph::Graph;
 use crate::helpers::Helpers;
 use block_map::BlockMap;
 use marker::Marker;
-use pages::Reader;
+use pages::{Reader, Uncounted};
 use words::limits::PAGE_WORDS;
 
 // How many words are read between two looks at what waits.
@@ -53,7 +53,12 @@ fn is_shareable(marker: &Marker, helpers: Helpers) -> bool {
 /// Marks on alone, from the roots, until nothing is left to read, or enough waits for the helpers on a heap of as many words as
 /// they start for, of which a quarter is read. Where they start at once it does nothing. Answers whether nothing is left to
 /// read: then the marks are the closure of the marks before and the roots.
-pub(crate) fn mark_before_helpers(marker: &mut Marker, graph: Graph, helpers: Helpers) -> bool
+pub(crate) fn mark_before_helpers(
+    marker: &mut Marker,
+    graph: Graph,
+    helpers: Helpers,
+    leave: Uncounted,
+) -> bool
     requires pages { length marker.old.dirty ≡ length graph.map.now }
     requires memory { length graph.memory.now ≡ PAGE_WORDS * length graph.map.now }
     requires objects { AreMarksObjects (found_in graph.map.now) marker.old }
@@ -73,11 +78,13 @@ pub(crate) fn mark_before_helpers(marker: &mut Marker, graph: Graph, helpers: He
         read = read.saturating_add(more);
         if read >= wanted && is_shareable(marker, helpers) {
             if has_words(graph.map, least) {
+                reader.end_uncounted(leave);
                 return false;
             }
             // The heap is too small, and is not asked again.
             wanted = u64::MAX;
         }
     }
+    reader.end_uncounted(leave);
     true
 }

@@ -20,7 +20,7 @@ use crate::round::Round;
 use crate::share::Pause;
 use each_law::{Law, run_each};
 use marker::Marker;
-use pages::Reader;
+use pages::{Reader, Uncounted};
 use std::alloc::{AllocError, Global};
 use std::marker::Sync;
 use std::sync::Wait;
@@ -103,10 +103,12 @@ pub fn close_marks_with<R: Threads + Wait + Sync, G: Gate>(
     ensures done { IsDone marker.new }
     ensures traces { Traces (found_in graph.entry.map.now) graph.entry.memory.now graph.entry.roots.now marker.old marker.new }
 {
-    if mark_before_helpers(marker, graph, helpers) {
+    let leave = Uncounted::new(alloc);
+    if mark_before_helpers(marker, graph, helpers, leave) {
         return;
     }
     mark_with_helpers(rt, alloc, marker, graph, helpers, gate);
     let mut reader = Reader::new(graph.memory);
     close_marks(marker, graph.map, &mut reader, graph.roots);
+    reader.end_uncounted(leave);
 }

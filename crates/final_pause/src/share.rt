@@ -16,7 +16,7 @@ use crate::piece::Piece;
 use block_map::{BlockMap, Found};
 use mark_bits::MarkTable;
 use marker::Marker;
-use pages::{Memory, Reader, Words};
+use pages::{Memory, Words};
 use words::limits::{FIRST_ADDRESS, PAGE_BYTES, WORD_BYTES};
 use words::{PageNo, granule_of, page_of};
 
@@ -135,8 +135,7 @@ impl<'a> Pause<'a> {
         ensures { ReadsWords (pause_view self.now) piece.found piece.first piece.count helper.old helper.new }
     {
         let start = piece.found.base + WORD_BYTES * u64::from(piece.first);
-        let mut reader = Reader::new(self.memory);
-        if self.visit_all(gate, helper, reader.read_run(start, piece.count)) {
+        if self.visit_all(gate, helper, self.memory.read_run(start, piece.count)) {
             carry(helper, page_of(start) as PageNo);
         }
     }

@@ -20,7 +20,7 @@ use crate::gate::Gate;
 use crate::helper::{Helper, carry};
 use crate::piece::Piece;
 use crate::share::Pause;
-use pages::{Reader, Words};
+use pages::Words;
 use words::limits::{PAGE_BYTES, WORD_BYTES};
 use words::{PageNo, page_of};
 
@@ -98,8 +98,7 @@ impl<'a> Pause<'a> {
         ensures { ReadsOwn (pause_view self.now) piece.found piece.first piece.count helper.old helper.new }
     {
         let start = piece.found.base + WORD_BYTES * u64::from(piece.first);
-        let mut reader = Reader::new(self.memory);
-        if self.visit_all_own(gate, helper, reader.read_run(start, piece.count)) {
+        if self.visit_all_own(gate, helper, self.memory.read_run(start, piece.count)) {
             carry(helper, page_of(start) as PageNo);
         }
     }

@@ -3,6 +3,7 @@ use Rattle.std.proofs.Common.{◌≡◌, ℕ, ◌+◌, ◌*◌, ◌≤◌, ◌%�
 use Rattle.std.specs.Prelude.{count_by}
 use Rattle.std.proofs.lemmas.Bool.{false≢true}
 use Rattle.words.specs.declared.limits.TheConstants.{PAGE_WORDS}
+use Rattle.pages.specs.Reads.{CountedReads}
 use Rattle.block_map.specs.FoundIn.{found_in}
 use Rattle.block_map.specs.Objects.{IsMap}
 use Rattle.heap_spec.specs.Heap.{Heap}
@@ -107,17 +108,17 @@ closes_marks c m map swept traces done closed = record {
   all = λ s h. all_marked c map swept s h m closed;
 }
 
-pub ends_cycle : (c : CoreContents) (t1 t' : Store) (m : Marking) (count reads n : ℕ) (ls' : List Link) → IsMap (length c.store.states) (found_in c.store.states) → IsSwept c.store → ForgetsUnreached c.store (root_words_of c.roots) c.cycle.marker n m.marks t1 → KeepsCells c.store t1 → IsPendingAfter t1.states m.marks t1.pending → IsDone m
+pub ends_cycle : (c : CoreContents) (t1 t' : Store) (m : Marking) (count : ℕ) (reads : CountedReads) (n : ℕ) (ls' : List Link) → IsMap (length c.store.states) (found_in c.store.states) → IsSwept c.store → ForgetsUnreached c.store (root_words_of c.roots) c.cycle.marker n m.marks t1 → KeepsCells c.store t1 → IsPendingAfter t1.states m.marks t1.pending → IsDone m
     → length c.cycle.marker.dirty ≡ length c.store.states → Traces (found_in c.store.states) c.store.words (root_words_of c.roots) c.cycle.marker m
     → count ≡ (c.cycle.count + 1) % word_end → IsMap (length t1.states) (found_in t1.states) → TakesAlong (kept_in t1.states t1.pending m.marks) c.links t1 t' → ls' ≡ filter (stays (kept_in t1.states t1.pending m.marks)) c.links
-    → reads ≤ PAGE_WORDS * (dirty_pages c.cycle.marker + newly_pages (found_in c.store.states) c.cycle.marker m) + entry_words (found_in c.store.states) c.cycle.marker
+    → reads.last ≤ PAGE_WORDS * (dirty_pages c.cycle.marker + newly_pages (found_in c.store.states) c.cycle.marker m) + entry_words (found_in c.store.states) c.cycle.marker → reads.all ≡ c.cycle.reads.all + reads.last
     → EndsCycle c n (record { roots = c.roots; store = t'; cycle = record { marker = m; is_marking = false; needs_full = c.cycle.needs_full; count = count; reads = reads }; links = ls' })
-ends_cycle c t1 t' m count reads n ls' map swept x cells pending done pages traces counts map' along same few =
+ends_cycle c t1 t' m count reads n ls' map swept x cells pending done pages traces counts map' along same few all =
     subst (λ z. EndsCycle c n (record { roots = c.roots; store = z; cycle = record { marker = m; is_marking = false; needs_full = c.cycle.needs_full; count = count; reads = reads }; links = ls' })) (sym (beside_is t1 t' along.beside))
     (subst (λ row. EndsCycle c n (record { roots = c.roots; store = record t1 { words = t'.words }; cycle = record { marker = m; is_marking = false; needs_full = c.cycle.needs_full; count = count; reads = reads }; links = row })) (sym same)
     (record {
       needs_full = refl;
-      ends = record { roots = refl; phase = refl; count = counts; done = done; marked = x.marked };
+      ends = record { roots = refl; phase = refl; count = counts; done = done; marked = x.marked; all_reads = all };
       forgets = λ s h. ends c map swept s h t1 t'.words _ n x map' along.words;
       cells = record { less = cells.less; small = cells.small };
       pending = pending;
@@ -126,17 +127,17 @@ ends_cycle c t1 t' m count reads n ls' map swept x cells pending done pages trac
     }))
 
 -- a collection sweeps, and drops the marks, first
-pub collects_all : (c : CoreContents) (t : Store) (dropped : Marking) (t1 t' : Store) (m : Marking) (count reads n : ℕ) (ls' : List Link) → IsMap (length t.states) (found_in t.states) → Sweeps c.store c.cycle.marker.marks t → IsSwept t → IsBlank (length t.states) dropped
+pub collects_all : (c : CoreContents) (t : Store) (dropped : Marking) (t1 t' : Store) (m : Marking) (count : ℕ) (reads : CountedReads) (n : ℕ) (ls' : List Link) → IsMap (length t.states) (found_in t.states) → Sweeps c.store c.cycle.marker.marks t → IsSwept t → IsBlank (length t.states) dropped
     → ForgetsUnreached t (root_words_of c.roots) dropped n m.marks t1 → IsSwept t1 → IsDone m
     → Traces (found_in t.states) t.words (root_words_of c.roots) dropped m → count ≡ (c.cycle.count + 1) % word_end
-    → IsMap (length t1.states) (found_in t1.states) → TakesAlong (kept_in t1.states t1.pending m.marks) c.links t1 t' → ls' ≡ filter (stays (kept_in t1.states t1.pending m.marks)) c.links
+    → IsMap (length t1.states) (found_in t1.states) → TakesAlong (kept_in t1.states t1.pending m.marks) c.links t1 t' → ls' ≡ filter (stays (kept_in t1.states t1.pending m.marks)) c.links → reads.all ≡ c.cycle.reads.all + reads.last
     → CollectsAll c n (record { roots = c.roots; store = t'; cycle = record { marker = m; is_marking = false; needs_full = false; count = count; reads = reads }; links = ls' })
-collects_all c t dropped t1 t' m count reads n ls' map sweeps swept blank x swept' done traces counts map' along same =
+collects_all c t dropped t1 t' m count reads n ls' map sweeps swept blank x swept' done traces counts map' along same all =
     subst (λ z. CollectsAll c n (record { roots = c.roots; store = z; cycle = record { marker = m; is_marking = false; needs_full = false; count = count; reads = reads }; links = ls' })) (sym (beside_is t1 t' along.beside))
     (subst (λ row. CollectsAll c n (record { roots = c.roots; store = record t1 { words = t'.words }; cycle = record { marker = m; is_marking = false; needs_full = false; count = count; reads = reads }; links = row })) (sym same)
     (record {
       needs_full = refl;
-      ends = record { roots = refl; phase = refl; count = counts; done = done; marked = x.marked };
+      ends = record { roots = refl; phase = refl; count = counts; done = done; marked = x.marked; all_reads = all };
       swept = swept';
       collects = λ s h. collects begun map swept s (stands s h) t1 t'.words _ n x map' along.words blank;
       strays = λ s h p has. ⊎_elim

@@ -3,6 +3,7 @@ use Rattle.std.proofs.Common.{◌≡◌, ℕ, Bool, true, false, List, length, O
 use Rattle.std.proofs.lemmas.Bool.{false≢true}
 use Rattle.std.proofs.lemmas.List.{set-get_or}
 use Rattle.pages.specs.Memory.{word_index, word_at, with_word_at}
+use Rattle.pages.specs.Reads.{CountedReads}
 use Rattle.block_map.specs.declared.found.Found.{Found}
 use Rattle.block_map.specs.FoundIn.{found_in}
 use Rattle.block_map.specs.Objects.{IsMap, IsInside}
@@ -100,7 +101,7 @@ traced_freed t t' y y' f x objects map there loses frees phase needs keeps = rec
 }
 
 -- a cycle has ended
-pub traced_ended : (t : Store) (m : Marking) (needs : Bool) (count : ℕ) {reads : ℕ} → length m.dirty ≡ length t.states → AreMarksObjects (found_in t.states) m → (needs ≡ false → CarriedPageInvariant (found_in t.states) t.words m) → IsTraced t (record { marker = m; is_marking = false; needs_full = needs; count = count; reads = reads })
+pub traced_ended : (t : Store) (m : Marking) (needs : Bool) (count : ℕ) {reads : CountedReads} → length m.dirty ≡ length t.states → AreMarksObjects (found_in t.states) m → (needs ≡ false → CarriedPageInvariant (found_in t.states) t.words m) → IsTraced t (record { marker = m; is_marking = false; needs_full = needs; count = count; reads = reads })
 traced_ended t m needs count pages objects carried = record { carried = carried; pages = pages; objects = objects; swept = λ is. absurd (clash is); invariant = λ is. absurd (clash is) }
   where
     clash : false ≡ true → ⊥
@@ -122,7 +123,7 @@ traced_swept t0 t y x sweeps = record {
         (kept_cases (is_kept t.pending y.marker.marks) (found_in t.states) f.base f (sweeps.same.same f.base ∙ kept_is (is_kept t0.pending y.marker.marks) (found_in t0.states) f.base f there (marked_kept t0.pending y.marker.marks f marked))).0
 
 -- a cycle begins with no mark
-pub traced_begun : (t0 t : Store) (y : Cycle) (m : Marking) (count : ℕ) {reads : ℕ} → IsTraced t0 y → Sweeps t0 y.marker.marks t → IsSwept t → IsBlank (length y.marker.dirty) m
+pub traced_begun : (t0 t : Store) (y : Cycle) (m : Marking) (count : ℕ) {reads : CountedReads} → IsTraced t0 y → Sweeps t0 y.marker.marks t → IsSwept t → IsBlank (length y.marker.dirty) m
     → ((found : ℕ → Option Found) (words : List ℕ) → DirtyPageInvariant found words m) → ((found : ℕ → Option Found) (words : List ℕ) → CarriedPageInvariant found words m)
     → IsTraced t (record { marker = m; is_marking = true; needs_full = false; count = count; reads = reads })
 traced_begun t0 t y m count x sweeps swept blank invariant carried = record {
@@ -134,7 +135,7 @@ traced_begun t0 t y m count x sweeps swept blank invariant carried = record {
 }
 
 -- a cycle begins with the marks of the last one
-pub traced_partial : (t0 t : Store) (y : Cycle) (m : Marking) (count : ℕ) {reads : ℕ} → IsTraced t0 y → Sweeps t0 y.marker.marks t → IsSwept t → IsMap (length t.states) (found_in t.states) → y.needs_full ≡ false → BeginsPartial y.marker m
+pub traced_partial : (t0 t : Store) (y : Cycle) (m : Marking) (count : ℕ) {reads : CountedReads} → IsTraced t0 y → Sweeps t0 y.marker.marks t → IsSwept t → IsMap (length t.states) (found_in t.states) → y.needs_full ≡ false → BeginsPartial y.marker m
     → ((found : ℕ → Option Found) (words : List ℕ) → IsMap (length y.marker.dirty) found → CarriedPageInvariant found words y.marker → DirtyPageInvariant found words m)
     → ((found : ℕ → Option Found) (words : List ℕ) → CarriedPageInvariant found words y.marker → CarriedPageInvariant found words m)
     → IsTraced t (record { marker = m; is_marking = true; needs_full = y.needs_full; count = count; reads = reads })

@@ -124,13 +124,14 @@ pub record ForgetsOutside (s : Heap) (births : ℕ → Type 0) (reply : Reply) (
   pub all : (base : ℕ) (o : Object) → HasObject s base o → (Closure s births base → ⊥) → Contains bases base
 
 -- The marking has ended, and one collection more is counted. No page is dirty and no entry is left, each object that is kept
--- is marked, and no root has changed.
+-- is marked, and no root has changed. All reads have grown by those of this collection.
 pub record EndsMarking (old new : CoreContents) : Type 0 where
   pub roots : new.roots ≡ old.roots
   pub phase : new.cycle.is_marking ≡ false
   pub count : new.cycle.count ≡ (old.cycle.count + 1) % word_end
   pub done : IsDone new.cycle.marker
   pub marked : (f : Found) → objects_of new f.base ≡ Some f → IsMarked new.cycle.marker f.base
+  pub all_reads : new.cycle.reads.all ≡ old.cycle.reads.all + new.cycle.reads.last
 
 -- A cycle ends: exactly the objects outside of the closure of the marks go, so many, the small ones only when their pages are
 -- swept. The pending pages are then the blocks with an unmarked allocated object. Each carried page was carried before, or a
@@ -143,7 +144,7 @@ pub record EndsCycle (old : CoreContents) (n : ℕ) (new : CoreContents) : Type 
   pub cells : KeepsCells old.store new.store
   pub pending : IsPendingAfter new.store.states new.cycle.marker.marks new.store.pending
   pub strays : (s : Heap) → StandsFor old s → (p : ℕ) → Has new.cycle.marker.carried p → Has old.cycle.marker.carried p ⊎ HasStray s (IsMarkedBirth s old.cycle.marker) p
-  pub reads : new.cycle.reads ≤ PAGE_WORDS * (dirty_pages old.cycle.marker + newly_pages (found_in old.store.states) old.cycle.marker new.cycle.marker) + entry_words (found_in old.store.states) old.cycle.marker
+  pub reads : new.cycle.reads.last ≤ PAGE_WORDS * (dirty_pages old.cycle.marker + newly_pages (found_in old.store.states) old.cycle.marker new.cycle.marker) + entry_words (found_in old.store.states) old.cycle.marker
 
 -- A full collection: exactly the objects that are not reached go, so many, and no page is pending. On each carried page a stray
 -- word of a reached object stands.

@@ -1,6 +1,7 @@
 -- What a core contains.
 use Rattle.std.specs.Prelude.{◌≡◌, ℕ, true, false, Bool, List, length}
 use Rattle.links.specs.declared.row.Link.{Link}
+use Rattle.pages.specs.Reads.{CountedReads}
 use Rattle.roots.specs.Roots.{RootSet}
 use Rattle.marker.specs.Marking.{Marking, AreMarksObjects}
 use Rattle.marker.specs.Invariant.{DirtyPageInvariant, CarriedPageInvariant}
@@ -10,13 +11,13 @@ use Rattle.object_space.specs.Store.{Store, AreEmptyPages, IsPendingRow, HasSoun
 
 -- What a core has of the collector: what the marker has, whether a cycle is marking, whether a full cycle is needed before one
 -- may begin with the marks of the last, the count of collections, and how many heap words the marker read for the last of
--- these.
+-- these, and for all.
 pub record Cycle : Type 0 where
   pub marker : Marking
   pub is_marking : Bool
   pub needs_full : Bool
   pub count : ℕ
-  pub reads : ℕ
+  pub reads : CountedReads
 
 -- What a core contains. A link names an object by its base.
 pub record CoreContents : Type 0 where

@@ -28,7 +28,7 @@ mod written;
 use links::Links;
 use marker::Marker;
 use object_space::ObjectSpace;
-use pages::Count;
+use pages::{ReadCount, Uncounted};
 use roots::{RootWords, Roots};
 use std::alloc::Global;
 use std::marker::Model;
@@ -56,8 +56,10 @@ pub struct Core {
     count: u64,
     links: Links,
     root_words: RootWords,
-    // How many heap words the marker read for the last collection, which only contracts see.
-    reads: Count,
+    // How many heap words the marker read for collections, which only contracts see.
+    reads: ReadCount,
+    // By which the marker's readers end that read for steps.
+    leave: Uncounted,
 }
 
 impl Model for Core {
@@ -66,9 +68,9 @@ impl Model for Core {
 
     ghost Value = { CoreContents };
 
-    ghost view = { λ c. record { roots = c.roots; store = c.objects; cycle = record { marker = c.marker; is_marking = c.is_marking; needs_full = c.needs_full; count = c.count; reads = c.reads.n }; links = c.links } };
+    ghost view = { λ c. record { roots = c.roots; store = c.objects; cycle = record { marker = c.marker; is_marking = c.is_marking; needs_full = c.needs_full; count = c.count; reads = c.reads }; links = c.links } };
 
-    ghost invariant = { λ c. IsLegalCore (record { roots = c.roots; store = c.objects; cycle = record { marker = c.marker; is_marking = c.is_marking; needs_full = c.needs_full; count = c.count; reads = c.reads.n }; links = c.links }) };
+    ghost invariant = { λ c. IsLegalCore (record { roots = c.roots; store = c.objects; cycle = record { marker = c.marker; is_marking = c.is_marking; needs_full = c.needs_full; count = c.count; reads = c.reads }; links = c.links }) };
 }
 
 impl Core {
@@ -116,7 +118,8 @@ impl Core {
             count: 0,
             links: Links::new(),
             root_words,
-            reads: Count::zero(),
+            reads: ReadCount::new(alloc),
+            leave: Uncounted::new(alloc),
         })
     }
 

@@ -1,6 +1,5 @@
 -- Marking while others write.
 use Rattle.std.proofs.Common.{◌≡◌, ℕ, ◌+◌, ◌*◌, ◌<◌, ◌≤◌, Bool, true, false, List, [], ◌∷◌, length, get_or, Contains, Option, Some, refl, sym, ap, ◌∙◌, subst, inl, inr, ⊎_elim, arith}
-use Rattle.std.specs.Prelude.{slice_range}
 use Rattle.std.proofs.lemmas.Bool.{cases_Bool, cases_eq, false≢true}
 use Rattle.std.proofs.lemmas.List.{ext_get_or}
 use Rattle.std.proofs.lemmas.List.FromFn.{length-map-range_with_len, get_or-map-range_with_len}
@@ -272,7 +271,3 @@ still_as found a b m n page e d still = subst (λ (x : List ℕ). IsStill found 
 -- where nobody writes every page is still
 pub still_here : (found : ℕ → Option Found) (words : List ℕ) (moments : List (List ℕ)) (page : ℕ) → moments ≡ words ∷ [] → IsStill found words moments page
 still_here found words moments page one = record { same = λ m h f is n i lt on. ap (λ v. word_at v (word_address f i)) (sym (only_moment words m (subst (λ (l : List (List ℕ)). Contains l m) one h))) }
-
-pub only_run : (words : List ℕ) (moments : List (List ℕ)) (row : List ℕ) (first end : ℕ) → moments ≡ words ∷ [] → (seen : List ℕ) × IsWoven moments seen × (row ≡ slice_range seen first end) → row ≡ slice_range words first end
-only_run words moments row first end one r =
-    r.2 ∙ ap (λ v. slice_range v first end) (only_woven words r.0 (subst (λ (l : List (List ℕ)). IsWoven l r.0) one r.1))

@@ -24,4 +24,3 @@ pub mod Putting
 pub mod Along
 pub mod Many
 pub mod Freed
-mod Walks

@@ -33,4 +33,12 @@ impl Count {
     {
         Count {}
     }
+
+    /// The sum of two counts.
+    #[inline]
+    pub fn plus(&self, more: &Count) -> Count
+        ensures { result.n ≡ self.now.n + more.now.n }
+    {
+        Count {}
+    }
 }

@@ -3,8 +3,9 @@
 //!
 //! # What is proved
 //!
-//! Contracts see the heap's words as a list; the reader counts its reads at no cost. `read`, `write` and `zero` say exactly
-//! which words change; `read_run` counts so many words in a row and gives each of them once, singly or by four (`Words`).
+//! Contracts see the heap's words as a list; the reader counts its reads at no cost, and ends into a `ReadCount`, to which
+//! nothing else adds. `read`, `write` and `zero` say exactly which words change; `read_run` counts so many words in a row and
+//! gives each of them once, singly or by four (`Words`).
 //! `take_run` gives n consecutive free pages, and `None` exactly where there are none; `next_taken` finds those in use,
 //! and `next_run` the runs of free ones.
 #![tactic(auto)]
@@ -15,6 +16,7 @@ mod memory;
 mod moments;
 mod opening;
 mod pool;
+mod read_count;
 mod reader;
 mod run;
 mod starts;
@@ -24,5 +26,6 @@ pub use memory::Memory;
 pub use moments::Moments;
 pub use opening::is_page_count;
 pub use pool::{FreeRun, PagePool};
+pub use read_count::{ReadCount, Uncounted};
 pub use reader::Reader;
 pub use run::Words;

@@ -5,6 +5,7 @@ ghost use Rattle.pages.specs.Memory.{IsWordAddress, IsZeroMemory, IsZeroed, word
 ghost use Rattle.pages.specs.Opening.{IsOpenedWithin};
 
 use crate::opening::is_page_count;
+use crate::run::Words;
 use std::alloc::Global;
 use std::marker::Model;
 use words::OpenError;
@@ -104,15 +105,15 @@ impl Memory {
         self.words[word_index(address)]
     }
 
-    /// So many words, from an address on.
+    /// So many words, from an address on, each of them to be had once.
     #[inline]
-    pub(crate) fn run(&self, address: u64, count: u64) -> &[u64]
+    pub fn read_run(&self, address: u64, count: u64) -> Words
         requires above { FIRST_ADDRESS ≤ address }
         requires inside { word_index address + count ≤ length self.now }
-        ensures { result.now ≡ slice_range self.now (word_index address) (word_index address + count) }
+        ensures { result ≡ slice_range self.now (word_index address) (word_index address + count) }
     {
         let first = word_index(address);
-        &self.words[first..first + count as usize]
+        Words::new(&self.words[first..first + count as usize])
     }
 
     /// Writes a word at an address.

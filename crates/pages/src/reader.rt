@@ -1,5 +1,5 @@
-//! Reads of the heap that contracts count. A reader lends no memory, counts each word that it gives, and costs nothing
-//! when it runs.
+//! Reads of the heap that contracts count. A reader lends no memory, counts each word that it gives, ends into a count, and
+//! costs nothing when it runs.
 ghost use Rattle.std.specs.Prelude.{◌≡◌, ◌+◌, ◌≤◌, ◌∷◌, ℕ, List, [], length, slice_range};
 ghost use Rattle.words.specs.declared.limits.TheConstants.{FIRST_ADDRESS};
 ghost use Rattle.pages.specs.Memory.{IsWordAddress, word_index, word_at};
@@ -8,11 +8,12 @@ ghost use Rattle.pages.specs.Reads.{AreMoments, IsWoven};
 use crate::count::Count;
 use crate::memory::Memory;
 use crate::moments::Moments;
+use crate::read_count::{ReadCount, Uncounted};
 use crate::run::Words;
 use std::marker::Model;
 
-/// A reader of a heap's words. Contracts see the words, and how many reads it has made.
-#[derive(Drop)]
+/// A reader of a heap's words. Contracts see the words, and how many reads it has made. It isn't dropped: it ends by [`Reader::end`] or
+/// [`Reader::end_uncounted`].
 pub struct Reader<'a> {
     memory: &'a Memory,
     moments: Moments,
@@ -102,6 +103,30 @@ impl<'a> Reader<'a> {
         for _ in 0..count {
             self.count_one();
         }
-        Words::new(self.memory.run(address, count))
+        self.memory.read_run(address, count)
+    }
+
+    /// Ends a reader: the count learns its reads.
+    #[inline]
+    pub fn end(self, reads: &mut ReadCount)
+        ensures last { reads.new.last ≡ self.entry.reads }
+        ensures all { reads.new.all ≡ reads.old.all + self.entry.reads }
+    {
+        let Reader {
+            memory: _,
+            moments: _,
+            count,
+        } = self;
+        reads.add(count);
+    }
+
+    /// Ends a reader whose reads nobody counts.
+    #[inline]
+    pub fn end_uncounted(self, _leave: Uncounted) {
+        let Reader {
+            memory: _,
+            moments: _,
+            count: _,
+        } = self;
     }
 }

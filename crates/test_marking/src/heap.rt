@@ -4,7 +4,7 @@ use block_map::{BlockMap, Found};
 use final_pause::{Gate, Graph, Helpers, close_marks_with};
 use fixtures::{are_free, small_class};
 use marker::{Marked, Marker};
-use pages::{Memory, Reader};
+use pages::{Memory, Reader, Uncounted};
 use std::alloc::Global;
 use std::marker::Model;
 use std::sync::Wait;
@@ -18,6 +18,7 @@ pub(crate) struct Heap {
     map: BlockMap,
     memory: Memory,
     marker: Marker,
+    leave: Uncounted,
 }
 
 impl Model for Heap {
@@ -48,6 +49,7 @@ impl Heap {
             map,
             memory,
             marker,
+            leave: Uncounted::new(alloc),
         })
     }
 
@@ -147,13 +149,17 @@ impl Heap {
     /// Reads words of entries, at most so many.
     pub(crate) fn step(&mut self, budget: u64) -> Marked {
         let mut reader = Reader::new(&self.memory);
-        self.marker.step(&self.map, &mut reader, budget)
+        let marked = self.marker.step(&self.map, &mut reader, budget);
+        reader.end_uncounted(self.leave);
+        marked
     }
 
     /// Reads the lowest dirty page again.
     pub(crate) fn retrace(&mut self) -> Option<PageNo> {
         let mut reader = Reader::new(&self.memory);
-        self.marker.retrace(&self.map, &mut reader)
+        let page = self.marker.retrace(&self.map, &mut reader);
+        reader.end_uncounted(self.leave);
+        page
     }
 
     /// Ends the marking in one pause with helpers.

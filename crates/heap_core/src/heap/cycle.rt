@@ -55,7 +55,7 @@ impl Core {
         if !self.is_marking {
             return Err(Refusal::WrongPhase);
         }
-        let marked = self.objects.mark(&mut self.marker, most);
+        let marked = self.objects.mark(&mut self.marker, most, self.leave);
         Ok(marked.read)
     }
 
@@ -69,7 +69,9 @@ impl Core {
         if !self.is_marking {
             return Err(Refusal::WrongPhase);
         }
-        let beside = self.objects.mark_beside(&mut self.marker, most, moments);
+        let beside = self
+            .objects
+            .mark_beside(&mut self.marker, most, moments, self.leave);
         Ok(beside.read)
     }
 
@@ -84,7 +86,10 @@ impl Core {
         if !self.is_marking {
             return Err(Refusal::WrongPhase);
         }
-        let Some(_) = self.objects.retrace_beside(&mut self.marker, moments) else {
+        let Some(_) = self
+            .objects
+            .retrace_beside(&mut self.marker, moments, self.leave)
+        else {
             return Ok(0);
         };
         Ok(1)
@@ -103,7 +108,7 @@ impl Core {
         }
         if !self
             .objects
-            .retrace_page_beside(&mut self.marker, page, moments)
+            .retrace_page_beside(&mut self.marker, page, moments, self.leave)
         {
             return Ok(0);
         }
@@ -117,7 +122,7 @@ impl Core {
         if !self.is_marking {
             return Err(Refusal::WrongPhase);
         }
-        let Some(_) = self.objects.retrace(&mut self.marker) else {
+        let Some(_) = self.objects.retrace(&mut self.marker, self.leave) else {
             return Ok(0);
         };
         Ok(1)

@@ -11,33 +11,26 @@ ghost use Rattle.marker.specs.Work.{dirty_pages, newly_pages, entry_words};
 use super::ObjectSpace;
 use final_pause::{Gate, Graph, Helpers, close_marks, close_marks_with};
 use marker::Marker;
-use pages::{Count, Reader};
+use pages::{ReadCount, Reader};
 use std::alloc::Global;
 use std::sync::Wait;
 use std::thread::Threads;
 
-// How many heap words a reader has read: a count that stays when the reader is gone.
-fn reads_of(reader: &Reader) -> Count
-    ensures { result.n ≡ reader.now.reads }
-{
-    Count {}
-}
-
 impl ObjectSpace {
-    // Marks all that the roots and the marks reach, and answers how many heap words it read for that, which only contracts
-    // see.
-    pub(super) fn close(&self, marker: &mut Marker, roots: &[u64]) -> Count
+    // Marks all that the roots and the marks reach. The count learns how many heap words that read.
+    pub(super) fn close(&self, marker: &mut Marker, roots: &[u64], reads: &mut ReadCount)
         requires pages { length marker.old.dirty ≡ length self.now.states }
         requires objects { AreMarksObjects (found_in self.now.states) marker.old }
         requires invariant { DirtyPageInvariant (found_in self.now.states) self.now.words marker.old }
         ensures closure { AreClosed (found_in self.now.states) self.now.words roots.now marker.old marker.new }
         ensures done { IsDone marker.new }
         ensures traces { Traces (found_in self.now.states) self.now.words roots.now marker.old marker.new }
-        ensures reads { result.n ≤ PAGE_WORDS * (dirty_pages marker.old + newly_pages (found_in self.now.states) marker.old marker.new) + entry_words (found_in self.now.states) marker.old }
+        ensures reads { reads.new.last ≤ PAGE_WORDS * (dirty_pages marker.old + newly_pages (found_in self.now.states) marker.old marker.new) + entry_words (found_in self.now.states) marker.old }
+        ensures all { reads.new.all ≡ reads.old.all + reads.new.last }
     {
         let mut reader = Reader::new(&self.memory);
         close_marks(marker, &self.table.map, &mut reader, roots);
-        reads_of(&reader)
+        reader.end(reads);
     }
 
     /// Marks all that the roots and the marks reach, with helpers in threads of their own.

@@ -16,7 +16,7 @@ ghost use Rattle.object_space.specs.Sweeps.{ForgetsUnreached, ForgetsLazily, Kee
 
 use super::ObjectSpace;
 use marker::Marker;
-use pages::Count;
+use pages::ReadCount;
 use words::PageNo;
 
 impl ObjectSpace {
@@ -82,9 +82,9 @@ impl ObjectSpace {
     }
 
     /// Ends a cycle: what the roots and the marks reach is marked, and the other objects are forgotten. Answers how many. The
-    /// count becomes that of the heap words that the marker read for it: at most those of the pages that were dirty, for each
-    /// newly marked object those of the pages that it covers, and what the entries had left.
-    pub fn finish(&mut self, marker: &mut Marker, roots: &[u64], reads: &mut Count) -> u64
+    /// count's last reads, by which all have grown, are those of the heap words that the marker read for it: at most those of the
+    /// pages that were dirty, for each newly marked object those of the pages that it covers, and what the entries had left.
+    pub fn finish(&mut self, marker: &mut Marker, roots: &[u64], reads: &mut ReadCount) -> u64
         requires pages { length marker.old.dirty ≡ length self.old.states }
         requires swept { IsSwept self.old }
         requires objects { AreMarksObjects (found_in self.old.states) marker.old }
@@ -97,16 +97,17 @@ impl ObjectSpace {
         ensures pages { length marker.new.dirty ≡ length self.new.states }
         ensures carries { CarriedPageInvariant (found_in self.old.states) self.old.words marker.old → CarriedPageInvariant (found_in self.new.states) self.new.words marker.new }
         ensures objects { AreMarksObjects (found_in self.new.states) marker.new }
-        ensures reads { reads.new.n ≤ PAGE_WORDS * (dirty_pages marker.old + newly_pages (found_in self.old.states) marker.old marker.new) + entry_words (found_in self.old.states) marker.old }
+        ensures reads { reads.new.last ≤ PAGE_WORDS * (dirty_pages marker.old + newly_pages (found_in self.old.states) marker.old marker.new) + entry_words (found_in self.old.states) marker.old }
+        ensures all { reads.new.all ≡ reads.old.all + reads.new.last }
         ensures lawful { IsLawful self.old.states }
     {
         self.laws();
-        *reads = self.close(marker, roots);
+        self.close(marker, roots, reads);
         self.forget_lazily(marker)
     }
 
     /// The same, but all that is forgotten is swept now.
-    pub fn collect(&mut self, marker: &mut Marker, roots: &[u64], reads: &mut Count) -> u64
+    pub fn collect(&mut self, marker: &mut Marker, roots: &[u64], reads: &mut ReadCount) -> u64
         requires pages { length marker.old.dirty ≡ length self.old.states }
         requires swept { IsSwept self.old }
         requires objects { AreMarksObjects (found_in self.old.states) marker.old }
@@ -118,7 +119,8 @@ impl ObjectSpace {
         ensures pages { length marker.new.dirty ≡ length self.new.states }
         ensures carries { CarriedPageInvariant (found_in self.old.states) self.old.words marker.old → CarriedPageInvariant (found_in self.new.states) self.new.words marker.new }
         ensures objects { AreMarksObjects (found_in self.new.states) marker.new }
-        ensures reads { reads.new.n ≤ PAGE_WORDS * (dirty_pages marker.old + newly_pages (found_in self.old.states) marker.old marker.new) + entry_words (found_in self.old.states) marker.old }
+        ensures reads { reads.new.last ≤ PAGE_WORDS * (dirty_pages marker.old + newly_pages (found_in self.old.states) marker.old marker.new) + entry_words (found_in self.old.states) marker.old }
+        ensures all { reads.new.all ≡ reads.old.all + reads.new.last }
         ensures lawful { IsLawful self.old.states }
     {
         let count = self.finish(marker, roots, reads);

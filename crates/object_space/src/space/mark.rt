@@ -12,7 +12,7 @@ ghost use Rattle.marker.specs.Retracing.{Retraces, RetracesLowest};
 
 use super::ObjectSpace;
 use marker::{Marked, Marker};
-use pages::{Moments, Reader};
+use pages::{Moments, Reader, Uncounted};
 use words::PageNo;
 
 impl ObjectSpace {
@@ -30,7 +30,7 @@ impl ObjectSpace {
     }
 
     /// Reads at most so many words of entries.
-    pub fn mark(&self, marker: &mut Marker, budget: u64) -> Marked
+    pub fn mark(&self, marker: &mut Marker, budget: u64, leave: Uncounted) -> Marked
         requires pages { length marker.old.dirty ≡ length self.now.states }
         requires objects { AreMarksObjects (found_in self.now.states) marker.old }
         ensures takes { Takes (found_in self.now.states) (self.now.words ∷ []) marker.old result.read marker.new }
@@ -44,11 +44,19 @@ impl ObjectSpace {
     {
         self.table.map.laws();
         let mut reader = Reader::new(&self.memory);
-        marker.step(&self.table.map, &mut reader, budget)
+        let marked = marker.step(&self.table.map, &mut reader, budget);
+        reader.end_uncounted(leave);
+        marked
     }
 
     /// Reads at most so many words of entries, while others write on dirty pages: the memory is read at these moments.
-    pub fn mark_beside(&self, marker: &mut Marker, budget: u64, moments: Moments) -> Marked
+    pub fn mark_beside(
+        &self,
+        marker: &mut Marker,
+        budget: u64,
+        moments: Moments,
+        leave: Uncounted,
+    ) -> Marked
         requires pages { length marker.old.dirty ≡ length self.now.states }
         requires objects { AreMarksObjects (found_in self.now.states) marker.old }
         requires moments { AreMoments self.now.words moments.list }
@@ -63,12 +71,19 @@ impl ObjectSpace {
     {
         self.table.map.laws();
         let mut beside = Reader::beside(&self.memory, moments);
-        marker.step(&self.table.map, &mut beside, budget)
+        let marked = marker.step(&self.table.map, &mut beside, budget);
+        beside.end_uncounted(leave);
+        marked
     }
 
     /// Reads the lowest dirty page again, on which nobody writes, while others write on other dirty pages: the memory is read at
     /// these moments.
-    pub fn retrace_beside(&self, marker: &mut Marker, moments: Moments) -> Option<PageNo>
+    pub fn retrace_beside(
+        &self,
+        marker: &mut Marker,
+        moments: Moments,
+        leave: Uncounted,
+    ) -> Option<PageNo>
         requires pages { length marker.old.dirty ≡ length self.now.states }
         requires objects { AreMarksObjects (found_in self.now.states) marker.old }
         requires moments { AreMoments self.now.words moments.list }
@@ -80,12 +95,20 @@ impl ObjectSpace {
     {
         self.table.map.laws();
         let mut beside = Reader::beside(&self.memory, moments);
-        marker.retrace(&self.table.map, &mut beside)
+        let page = marker.retrace(&self.table.map, &mut beside);
+        beside.end_uncounted(leave);
+        page
     }
 
     /// Reads this page again, on which nobody writes, if it is dirty, and answers whether it was, while others write on other dirty
     /// pages: the memory is read at these moments.
-    pub fn retrace_page_beside(&self, marker: &mut Marker, page: PageNo, moments: Moments) -> bool
+    pub fn retrace_page_beside(
+        &self,
+        marker: &mut Marker,
+        page: PageNo,
+        moments: Moments,
+        leave: Uncounted,
+    ) -> bool
         requires pages { length marker.old.dirty ≡ length self.now.states }
         requires objects { AreMarksObjects (found_in self.now.states) marker.old }
         requires moments { AreMoments self.now.words moments.list }
@@ -98,11 +121,13 @@ impl ObjectSpace {
     {
         self.table.map.laws();
         let mut beside = Reader::beside(&self.memory, moments);
-        marker.retrace_page(&self.table.map, &mut beside, page)
+        let was_dirty = marker.retrace_page(&self.table.map, &mut beside, page);
+        beside.end_uncounted(leave);
+        was_dirty
     }
 
     /// Reads the lowest dirty page again.
-    pub fn retrace(&self, marker: &mut Marker) -> Option<PageNo>
+    pub fn retrace(&self, marker: &mut Marker, leave: Uncounted) -> Option<PageNo>
         requires pages { length marker.old.dirty ≡ length self.now.states }
         requires objects { AreMarksObjects (found_in self.now.states) marker.old }
         ensures page { MatchOption result (IsClean marker.old × (marker.new ≡ marker.old)) (λ p. RetracesLowest (found_in self.now.states) self.now.words p marker.old marker.new) }
@@ -111,6 +136,8 @@ impl ObjectSpace {
     {
         self.table.map.laws();
         let mut reader = Reader::new(&self.memory);
-        marker.retrace(&self.table.map, &mut reader)
+        let page = marker.retrace(&self.table.map, &mut reader);
+        reader.end_uncounted(leave);
+        page
     }
 }

@@ -2,7 +2,6 @@ use Rattle.std.proofs.Common.{◌≡◌, ◌∙◌, ℕ, true, false, List, leng
 use Rattle.words.specs.Layout.{page_of}
 use Rattle.marker.specs.Marking.{bytes_of, word_address}
 use Rattle.marker.specs.Growth.{CarriesPage, TellsStray, words_from}
-use Rattle.marker.proofs.Beside.{only_run}
 use Rattle.marker.proofs.Words.{run_page, carries_some, carries_none}
 use Rattle.final_pause.specs.Pauses.{pause_view}
 use Rattle.final_pause.specs.Helping.{found, VisitsAll}
@@ -22,7 +21,6 @@ pub read_run-requires-clause-inside : goal.read_run-requires-clause-inside
 read_run-requires-clause-inside g c =
     let r = c.requires.fits.ready in let at = r.map.placed _ _ c.requires.object.points in
     let f = c.from.ensures in let p = at.below in let q = at.above in let a = at.aligned in let l = c.requires.inside in let m = r.memory in
-    let w = ap (λ (ws : List ℕ). length ws) c.new-reader.ensures.words in
     omega arith
 
 pub page_of-requires : goal.page_of-requires
@@ -34,7 +32,7 @@ pub carry-requires : goal.carry-requires
 carry-requires g c =
     let p = pause_view c.args.self.now in let object = c.args.piece.found in let r = c.requires.fits.ready in let placed = r.map.placed _ _ c.requires.object.points in
     let f = c.from.ensures in
-    let run = lent_words p.memory c.new-reader.result.words c.read_run.result (length p.map) object c.args.piece.first c.args.piece.count _ placed c.requires.inside r.memory (omega arith) (only_run c.new-reader.result.words c.new-reader.result.moments _ _ _ c.new-reader.ensures.moments c.read_run.ensures.run) c.new-reader.ensures.words in
+    let run = lent_words p.memory p.memory c.read_run.result (length p.map) object c.args.piece.first c.args.piece.count _ placed c.requires.inside r.memory (omega arith) c.read_run.ensures refl in
     let tells : TellsStray (found p) (bytes_of p.marker) (words_from p.memory object c.args.piece.first c.args.piece.count) true =
     subst (λ (ws : List ℕ). TellsStray (found p) (bytes_of p.marker) ws true) run (subst (TellsStray (found p) (bytes_of p.marker) c.read_run.result) c.if-visit_all.true c.visit_all.ensures.stray) in
     let q = c.page_of.ensures in
@@ -46,7 +44,7 @@ pub returns-then-visit_all : goal.returns-then-visit_all
 returns-then-visit_all g c =
     let p = pause_view c.args.self.now in let object = c.args.piece.found in let r = c.requires.fits.ready in let placed = r.map.placed _ _ c.requires.object.points in
     let f = c.from.ensures in
-    let run = lent_words p.memory c.new-reader.result.words c.read_run.result (length p.map) object c.args.piece.first c.args.piece.count _ placed c.requires.inside r.memory (omega arith) (only_run c.new-reader.result.words c.new-reader.result.moments _ _ _ c.new-reader.ensures.moments c.read_run.ensures.run) c.new-reader.ensures.words in
+    let run = lent_words p.memory p.memory c.read_run.result (length p.map) object c.args.piece.first c.args.piece.count _ placed c.requires.inside r.memory (omega arith) c.read_run.ensures refl in
     let tells : TellsStray (found p) (bytes_of p.marker) (words_from p.memory object c.args.piece.first c.args.piece.count) true =
     subst (λ (ws : List ℕ). TellsStray (found p) (bytes_of p.marker) ws true) run (subst (TellsStray (found p) (bytes_of p.marker) c.read_run.result) c.if-visit_all.true c.visit_all.ensures.stray) in
     let q = c.page_of.ensures in
@@ -65,7 +63,7 @@ pub returns-else-visit_all : goal.returns-else-visit_all
 returns-else-visit_all g c =
     let p = pause_view c.args.self.now in let object = c.args.piece.found in let r = c.requires.fits.ready in let placed = r.map.placed _ _ c.requires.object.points in
     let f = c.from.ensures in
-    let run = lent_words p.memory c.new-reader.result.words c.read_run.result (length p.map) object c.args.piece.first c.args.piece.count _ placed c.requires.inside r.memory (omega arith) (only_run c.new-reader.result.words c.new-reader.result.moments _ _ _ c.new-reader.ensures.moments c.read_run.ensures.run) c.new-reader.ensures.words in
+    let run = lent_words p.memory p.memory c.read_run.result (length p.map) object c.args.piece.first c.args.piece.count _ placed c.requires.inside r.memory (omega arith) c.read_run.ensures refl in
     let tells : TellsStray (found p) (bytes_of p.marker) (words_from p.memory object c.args.piece.first c.args.piece.count) false =
     subst (λ (ws : List ℕ). TellsStray (found p) (bytes_of p.marker) ws false) run (subst (TellsStray (found p) (bytes_of p.marker) c.read_run.result) c.if-visit_all.false c.visit_all.ensures.stray) in
     let h = c.visit_all.new.helper in

@@ -16,7 +16,7 @@ returns c =
       c.if-not-self.false,
       ends_cycle _ _ _ _ _ _ _ _ c.finish-count.ensures.lawful.map (c.self.invariant.traced.swept c.if-not-self.false)
           (subst (λ rs. ForgetsUnreached c.self.inside.objects rs c.self.inside.marker c.finish-count.result c.finish-count.new.marker.marks c.finish-count.new.self) e c.finish-count.ensures.forgets) c.finish-count.ensures.cells c.finish-count.ensures.pending c.finish-count.ensures.done c.self.invariant.traced.pages
-          (subst (λ rs. Traces (found_in c.self.inside.objects.states) c.self.inside.objects.words rs c.self.inside.marker c.finish-count.new.marker) e c.finish-count.ensures.traces) refl c.take_along.ensures.lawful.map c.take_along.ensures.along c.take_along.ensures.links c.finish-count.ensures.reads,
+          (subst (λ rs. Traces (found_in c.self.inside.objects.states) c.self.inside.objects.words rs c.self.inside.marker c.finish-count.new.marker) e c.finish-count.ensures.traces) refl c.take_along.ensures.lawful.map c.take_along.ensures.along c.take_along.ensures.links c.finish-count.ensures.reads c.finish-count.ensures.all,
     )
 
 pub invariant_of-self : goal.invariant_of-self
@@ -27,4 +27,4 @@ invariant_of-self c =
     c.finish-count.result
     (ends_cycle _ _ _ _ _ _ _ _ c.finish-count.ensures.lawful.map (c.self.invariant.traced.swept c.if-not-self.false)
     (subst (λ rs. ForgetsUnreached c.self.inside.objects rs c.self.inside.marker c.finish-count.result c.finish-count.new.marker.marks c.finish-count.new.self) e c.finish-count.ensures.forgets) c.finish-count.ensures.cells c.finish-count.ensures.pending c.finish-count.ensures.done c.self.invariant.traced.pages
-    (subst (λ rs. Traces (found_in c.self.inside.objects.states) c.self.inside.objects.words rs c.self.inside.marker c.finish-count.new.marker) e c.finish-count.ensures.traces) refl c.take_along.ensures.lawful.map c.take_along.ensures.along c.take_along.ensures.links c.finish-count.ensures.reads)
+    (subst (λ rs. Traces (found_in c.self.inside.objects.states) c.self.inside.objects.words rs c.self.inside.marker c.finish-count.new.marker) e c.finish-count.ensures.traces) refl c.take_along.ensures.lawful.map c.take_along.ensures.along c.take_along.ensures.links c.finish-count.ensures.reads c.finish-count.ensures.all)

@@ -43,7 +43,7 @@ pub invariant_of-self : goal.invariant_of-self
 invariant_of-self c =
     let there = kept_there c.self.inside.objects c.self.inside.marker.marks _ c.in_ok-found.found c.if-found-word.false (sym c.in_ok-found.ensures.ok) in
     legal_called _ _ c.self.invariant
-    (traced_along _ _ _ _ _ c.take_along.ensures.lawful.map (traced_freed _ _ (record { marker = c.self.inside.marker; is_marking = c.self.inside.is_marking; needs_full = c.self.inside.needs_full; count = c.self.inside.count; reads = c.self.inside.reads.n }) _ c.in_ok-found.found c.self.invariant.traced (c.note_free.ensures.objects (found_in c.self.inside.objects.states) (found_in c.release.new.self.states) c.in_ok-found.found c.if-found-word.false (subst (λ w. found_in c.self.inside.objects.states w ≡ Some c.in_ok-found.found) c.if-found-word.false there) c.release.ensures.removed) c.in_ok-found.ensures.lawful.map there c.release.ensures
+    (traced_along _ _ _ _ _ c.take_along.ensures.lawful.map (traced_freed _ _ (record { marker = c.self.inside.marker; is_marking = c.self.inside.is_marking; needs_full = c.self.inside.needs_full; count = c.self.inside.count; reads = c.self.inside.reads }) _ c.in_ok-found.found c.self.invariant.traced (c.note_free.ensures.objects (found_in c.self.inside.objects.states) (found_in c.release.new.self.states) c.in_ok-found.found c.if-found-word.false (subst (λ w. found_in c.self.inside.objects.states w ≡ Some c.in_ok-found.found) c.if-found-word.false there) c.release.ensures.removed) c.in_ok-found.ensures.lawful.map there c.release.ensures
     (rw (sym c.if-found-word.false) at c.note_free.ensures.freed) refl c.note_free.ensures.needs (rw (sym c.if-found-word.false) at c.note_free.ensures.keeps)) c.take_along.ensures.along)
     c.args.slot (Free c.args.reg) Done tt
     (freed _ _ _ _ _ _ _ _ _ c.in_ok-mutator.mutator.now c.in_ok-found.found c.in_ok-found.ensures.lawful c.in_ok-mutator.ensures.ok

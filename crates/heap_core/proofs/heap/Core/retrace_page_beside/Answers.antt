@@ -18,7 +18,7 @@ retrace_page_beside-requires-clause-still c = rw (← c.self.view_is) at c.requi
 
 pub returns-then-not-retrace_page_beside : goal.returns-then-not-retrace_page_beside
 returns-then-not-retrace_page_beside c =
-    let with_marks : Marking → CoreContents = λ m. record { roots = c.self.inside.roots; store = c.self.inside.objects; cycle = record { marker = m; is_marking = c.self.inside.is_marking; needs_full = c.self.inside.needs_full; count = c.self.inside.count; reads = c.self.inside.reads.n }; links = c.self.inside.links } in
+    let with_marks : Marking → CoreContents = λ m. record { roots = c.self.inside.roots; store = c.self.inside.objects; cycle = record { marker = m; is_marking = c.self.inside.is_marking; needs_full = c.self.inside.needs_full; count = c.self.inside.count; reads = c.self.inside.reads }; links = c.self.inside.links } in
     rw (← c.self.view_is) (
       c.if-not-self.false,
       record {

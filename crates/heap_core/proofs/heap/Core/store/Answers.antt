@@ -47,7 +47,7 @@ note_write-requires-clause-inside c =
 
 pub invariant_of-self : goal.invariant_of-self
 invariant_of-self c = legal_called _ _ c.self.invariant
-    (traced_write _ _ (record { marker = c.self.inside.marker; is_marking = c.self.inside.is_marking; needs_full = c.self.inside.needs_full; count = c.self.inside.count; reads = c.self.inside.reads.n }) _ _ _ c.self.invariant.traced c.write.ensures c.note_write.ensures refl refl)
+    (traced_write _ _ (record { marker = c.self.inside.marker; is_marking = c.self.inside.is_marking; needs_full = c.self.inside.needs_full; count = c.self.inside.count; reads = c.self.inside.reads }) _ _ _ c.self.invariant.traced c.write.ensures c.note_write.ensures refl refl)
     c.args.slot (Store c.args.at c.args.offset c.args.from) Done tt
     (stores _ _ _ _ _ _ _ _ _ c.in_ok-mutator.mutator.now c.in_ok-find_in.field-0 c.in_ok-find_in.ensures.lawful c.in_ok-find_in.ensures.long c.in_ok-mutator.ensures.ok
     (rw c.address-target.ensures at c.if-target-ne0.false)

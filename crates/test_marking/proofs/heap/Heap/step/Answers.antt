@@ -3,4 +3,4 @@ use Rattle.test_marking.proofs.Marked.{traced}
 use Rattle.test_marking.proofs.heap.Heap.step.Goals as goal
 
 pub invariant_of-self : goal.invariant_of-self
-invariant_of-self c = traced _ _ [] _ _ c.self.invariant (rw (← c.new-reader.ensures.words) (c.step.ensures.traces c.new-reader.ensures.moments))
+invariant_of-self c = traced _ _ [] _ _ c.self.invariant (rw (← c.new-reader.ensures.words) (c.step-marked.ensures.traces c.new-reader.ensures.moments))
