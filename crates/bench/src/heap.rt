@@ -51,23 +51,20 @@ fn mark_in_pause<R: Threads + Wait + Sync>(
     rt: &R,
     alloc: Global,
     marker: &mut Marker,
-    space: &BlockSpace,
-    roots: &[u64],
+    graph: Graph,
     helpers: Option<Helpers>,
 )
-    requires { length marker.old.dirty ≡ length space.now }
-    ensures { length marker.new.dirty ≡ length space.now }
+    requires pages { length marker.old.dirty ≡ length graph.map.now }
+    requires memory { length graph.memory.now ≡ PAGE_WORDS * length graph.map.now }
+    ensures { length marker.new.dirty ≡ length graph.entry.map.now }
 {
-    let map = space.map();
-    begin(marker, map);
-    let memory = space.memory();
+    begin(marker, graph.map);
     if let Some(helpers) = helpers {
-        let graph = Graph { map, memory, roots };
         close_marks_with(rt, alloc, marker, graph, helpers, &Open);
         return;
     }
-    let mut reader = Reader::new(memory);
-    close_marks(marker, map, &mut reader, roots);
+    let mut reader = Reader::new(graph.memory);
+    close_marks(marker, graph.map, &mut reader, graph.roots);
     reader.end_uncounted(Uncounted::new(alloc));
 }
 
@@ -164,6 +161,11 @@ impl Heap {
         roots: &[u64],
         helpers: Option<Helpers>,
     ) {
-        mark_in_pause(rt, alloc, &mut self.marker, &self.space, roots, helpers);
+        let graph = Graph {
+            map: self.space.map(),
+            memory: self.space.memory(),
+            roots,
+        };
+        mark_in_pause(rt, alloc, &mut self.marker, graph, helpers);
     }
 }

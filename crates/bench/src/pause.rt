@@ -24,15 +24,22 @@ fn put_roots(shape: &str, count: u64, roots: &mut [u64]) {
     }
 }
 
+// A pause that is timed: over so many objects of a shape, from these roots, by so many helpers.
+#[derive(Clone, Copy)]
+struct Timed<'a> {
+    shape: &'a str,
+    count: u64,
+    roots: &'a [u64],
+    number: u8,
+}
+
 // Marks all in one pause, and prints the least time of all rounds.
 fn time_pause<R: Threads + Wait + Sync + Eprint + Clock>(
     rt: &R,
     alloc: Global,
     name: &str,
     heap: &mut Heap,
-    roots: &[u64],
-    number: u8,
-    count: u64,
+    timed: Timed,
 ) -> io::Result<()> {
     let mut least = u128::MAX;
     for _ in 0..ROUNDS {
@@ -40,26 +47,24 @@ fn time_pause<R: Threads + Wait + Sync + Eprint + Clock>(
         heap.pause(
             rt,
             alloc,
-            roots,
-            Helpers::new(number).map(|helpers| helpers.where_it_pays()),
+            timed.roots,
+            Helpers::new(timed.number).map(|helpers| helpers.where_it_pays()),
         );
         least = least.min(since(rt, start)?);
     }
-    report(rt, name, least, count, u64::from(number))
+    report(rt, name, least, timed.count, u64::from(timed.number))
 }
 
 // The pause by so many helpers, on a line with a name of its own.
 fn time_named<R: Threads + Wait + Sync + Eprint + Clock>(
     rt: &R,
     alloc: Global,
-    shape: &str,
     heap: &mut Heap,
-    roots: &[u64],
-    number: u8,
-    count: u64,
+    timed: Timed,
 ) -> io::Result<()> {
+    let (shape, count, number) = (timed.shape, timed.count, timed.number);
     let name = format!(in alloc; "pause_{shape}_{count}_by_{number}")?;
-    time_pause(rt, alloc, name.as_str(), heap, roots, number, count)
+    time_pause(rt, alloc, name.as_str(), heap, timed)
 }
 
 // The pause alone, and by 1, 2 and 4 helpers.
@@ -73,7 +78,13 @@ fn time_shape<R: Threads + Wait + Sync + Eprint + Clock>(
     let mut roots = [0; LISTS as usize];
     put_roots(shape, count, &mut roots);
     for number in [0, 1, 2, 4] {
-        time_named(rt, alloc, shape, heap, &roots, number, count)?;
+        let timed = Timed {
+            shape,
+            count,
+            roots: &roots,
+            number,
+        };
+        time_named(rt, alloc, heap, timed)?;
     }
     Ok(())
 }
