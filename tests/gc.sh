@@ -69,8 +69,9 @@ if command -v clang >"$room/said"; then CC=clang build "$room/clang"; else skip 
 . "$top/tests/gc/parts/headers.sh"
 
 # Each function, each place of roots, and what stands round the barrier.
-for test in functions settings macros inline limits links frees pacing leaks unmapped finalizers kinds roots barrier crowded kernel signals handlers moments \
-    process shadow threads world loading registering stopping waiting leaving joining behind together collector marking stacks; do
+for test in functions settings macros inline limits links frees pacing leaks unmapped finalizers typed kinds asking roots barrier crowded \
+    kernel signals handlers moments process shadow threads world loading registering stopping turns goodbyes suspending faulting waiting leaving \
+    joining behind together collector marking stacks; do
     "${c[@]}" "$top/tests/gc/$test.c" "-L$room" -lmpgc "-Wl,-rpath,$room" -pthread -o "$room/$test" 2>"$room/said"
     is "$test is built" "" "$(cat "$room/said")"
 done
@@ -88,7 +89,7 @@ counted "frees, beside the collector's thread" env GC_COLLECTOR_THREAD=1 "$room/
 counted pacing "$room/pacing"
 counted "pacing, in small steps" env GC_ENABLE_INCREMENTAL=1 "$room/pacing"
 counted leaks "$room/leaks"
-for test in inline unmapped finalizers kinds registering leaving waiting; do
+for test in inline unmapped finalizers typed kinds asking registering leaving waiting; do
     counted "$test" "$room/$test"
     counted "$test, in small steps" env INCREMENTAL=1 "$room/$test"
 done
@@ -127,7 +128,7 @@ done
     "${c[@]}" -shared -fPIC "$top/tests/gc/plugged.c" "-L$room" -lmpgc "-Wl,-rpath,$room" -o "$room/plugged.so" 2>"$room/said"
 is "a part that is linked with the library is built, and a program that isn't" "" "$(cat "$room/said")"
 counted "plugging" "$room/plugging" "$room/plugged.so"
-counted "stopping" "$room/stopping"
+for test in stopping turns goodbyes suspending faulting; do counted "$test" "$room/$test"; done
 for setting in FULL GC_ENABLE_INCREMENTAL GC_COLLECTOR_THREAD; do
     counted "behind, $setting" env $setting=1 "$room/behind"
 done
@@ -143,7 +144,7 @@ for test in barrier kernel signals; do
 done
 # The archive in a program that is linked statically.
 if echo 'int main(void) { return 0; }' | cc -static -x c - -o "$room/static" 2>"$room/said"; then
-    for test in functions roots finalizers kinds joining threads; do
+    for test in functions roots finalizers typed kinds asking joining threads; do
         "${c[@]}" -static "$top/tests/gc/$test.c" "$room/libmpgc.a" -pthread -o "$room/static_$test" 2>"$room/said"
         is "$test, linked statically, is built" "" "$(cat "$room/said")"
         [ $test = threads ] || counted "$test, linked statically" "$room/static_$test"
@@ -153,7 +154,7 @@ else
     skip libc.a "programs that are linked statically"
 fi
 if [ -e /usr/include/gc/gc_mark.h ]; then
-    for test in functions settings macros inline links pacing leaks unmapped finalizers kinds registering leaving stacks; do
+    for test in functions settings macros inline links pacing leaks unmapped finalizers typed kinds asking registering leaving stacks; do
         cc -std=c11 -O1 -w -DOTHER "$top/tests/gc/$test.c" -lgc -o "$room/${test}_bdw"
         counted "$test, over bdwgc" "$room/${test}_bdw"
     done
@@ -188,8 +189,10 @@ done
 ar rcs "$room/checking_core.a" "$room/checking_core.o" "$room/lent.o"
 MPHEAP_ARCHIVE=$room/checking_core.a build "$room/checking"
 counted "collector, over a core that checks what is owed" env "LD_LIBRARY_PATH=$room/checking" "$room/collector" 1
-counted "stopping, over that core" env "LD_LIBRARY_PATH=$room/checking" "$room/stopping"
-for test in functions settings links finalizers kinds registering roots barrier kernel; do
+for test in stopping turns goodbyes suspending faulting; do
+    counted "$test, over that core" env "LD_LIBRARY_PATH=$room/checking" "$room/$test"
+done
+for test in functions settings links finalizers typed kinds asking registering roots barrier kernel; do
     counted "$test, beside the collector's thread" env GC_COLLECTOR_THREAD=1 "$room/$test"
 done
 counted "world, beside the collector's thread" env GC_COLLECTOR_THREAD=1 "$room/world" "${locals[@]}"

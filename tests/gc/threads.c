@@ -15,9 +15,10 @@
 #include <time.h>
 #include <unistd.h>
 #include "gc.h"
+#include "lists.h"
 #include "waits.h"
 
-enum { LISTS = 6, MOST = 300, SHARED = 8, KEPT = LISTS / 3 };
+enum { LISTS = 6, SHARED = 8, KEPT = LISTS / 3 };
 
 #ifdef OTHER
 #define IS_KEY(k) 0
@@ -27,16 +28,12 @@ enum { LISTS = 6, MOST = 300, SHARED = 8, KEPT = LISTS / 3 };
 #define IS_LOCAL(k) ((k) / KEPT == 1)
 #endif
 
-struct node { struct node *next; uint64_t value; char *text; };
-struct shadow { uint64_t values[MOST]; int length; };
-struct list { struct node *volatile *head; struct shadow *shadow; };
-
 static _Thread_local struct node *volatile local[KEPT];
 static struct { pthread_mutex_t lock; struct node *volatile head; struct shadow *shadow; } shared[SHARED];
 static pthread_key_t key;
 static double until;
 static _Atomic int is_over;
-static _Atomic uint64_t operations, compared, made;
+static _Atomic uint64_t operations;
 
 static double now(void)
 {
@@ -51,83 +48,6 @@ static uint64_t next_random(uint64_t *state)
     *state ^= *state >> 7;
     *state ^= *state << 17;
     return *state * 0x2545F4914F6CDD1Dull >> 20;
-}
-
-static void lost(const char *what)
-{
-    printf("failed: %s\n", what);
-    fflush(stdout);
-    abort();
-}
-
-static int bytes_of(uint64_t value) { return (int)(value % 90) + 1; }
-
-static void compare(struct node *head, const struct shadow *shadow)
-{
-    int k = shadow->length;
-    for (struct node *node = head; node; node = node->next) {
-        if (k-- == 0) lost("a list is longer");
-        if (node->value != shadow->values[k]) lost("a node has another value");
-        for (int b = 0; b < bytes_of(node->value); b++)
-            if ((unsigned char)node->text[b] != (unsigned char)(node->value + (unsigned)b)) lost("a text has another byte");
-        compared++;
-    }
-    if (k != 0) lost("a list is shorter");
-}
-
-static struct node *new_node(struct node *next, uint64_t value)
-{
-    struct node *node = GC_malloc(sizeof *node);
-    if (!node) lost("no room for a node");
-    if (node->next || node->value || node->text) lost("a new node isn't 0");
-    node->text = GC_malloc_atomic((size_t)bytes_of(value));
-    if (!node->text) lost("no room for a text");
-    for (int b = 0; b < bytes_of(value); b++) node->text[b] = (char)(value + (unsigned)b);
-    node->value = value;
-    node->next = next;
-    made++;
-    return node;
-}
-
-static void push(struct list *list, uint64_t value)
-{
-    if (list->shadow->length == MOST) return;
-    *list->head = new_node(*list->head, value);
-    list->shadow->values[list->shadow->length++] = value;
-}
-
-static void pop(struct list *list)
-{
-    if (list->shadow->length == 0) return;
-    *list->head = (*list->head)->next;
-    list->shadow->length--;
-}
-
-static void reverse(struct list *list)
-{
-    struct node *done = NULL, *rest = *list->head;
-    while (rest) {
-        struct node *next = rest->next;
-        rest->next = done;
-        done = rest;
-        rest = next;
-    }
-    *list->head = done;
-    for (int a = 0, b = list->shadow->length - 1; a < b; a++, b--) {
-        uint64_t value = list->shadow->values[a];
-        list->shadow->values[a] = list->shadow->values[b];
-        list->shadow->values[b] = value;
-    }
-}
-
-/* The end of a list is made anew. */
-static void renew_end(struct list *list, uint64_t value)
-{
-    struct node *node = *list->head;
-    if (!node || !node->next) return;
-    while (node->next->next) node = node->next;
-    node->next = new_node(NULL, value);
-    list->shadow->values[0] = value;
 }
 
 static void exchange(struct list *list, uint64_t which)
@@ -176,11 +96,7 @@ static void hand_over(struct list *list)
     for (int k = 0; k < 20; k++) GC_malloc(100);
     if (pthread_join(thread, &answer) != 0) lost("no join");
     *list->head = answer;
-    for (int a = 0, b = list->shadow->length - 1; a < b; a++, b--) {
-        uint64_t value = list->shadow->values[a];
-        list->shadow->values[a] = list->shadow->values[b];
-        list->shadow->values[b] = value;
-    }
+    reverse_shadow(list->shadow);
 }
 
 static void *rest(void *data)
@@ -190,56 +106,68 @@ static void *rest(void *data)
     return NULL;
 }
 
+/* What comes once in a thousand steps or so, and changes no list. */
+static void do_another_thing(uint64_t random)
+{
+    uint64_t often = random / 64 % 16, seldom = random / 64 % 64, hardly = random / 64 % 1024;
+    switch (random % 64) {
+    case 7: if (hardly == 0) GC_gcollect(); break;
+    case 8: if (seldom == 0) memset(GC_malloc(5000), 7, 5000); break;
+    case 9: if (hardly == 0) GC_do_blocking(rest, NULL); break;
+    case 10: if (often == 0) *(uint64_t *)GC_malloc_atomic(3000) = 1; break;
+    default: GC_free(memset(GC_malloc(48), 1, 48));
+    }
+}
+
+static void step(struct list *list, uint64_t random, uint64_t value)
+{
+    switch (random % 64) {
+    case 0: compare(*list->head, list->shadow); break;
+    case 1: reverse(list); break;
+    case 2: renew_end(list, value); break;
+    case 3: case 4: exchange(list, value >> 8); break;
+    case 5: if (random % 1024 < 64) drop(list); break;
+    case 6: if (random % 8192 < 64) hand_over(list); break;
+    case 7: case 8: case 9: case 10: case 11: do_another_thing(random); break;
+    default:
+        if (random % 2 == 0)
+            pop(list);
+        else
+            push(list, value);
+    }
+}
+
+static struct node *volatile *place_by_key(int k) { return (struct node *volatile *)pthread_getspecific(key) + k % KEPT; }
+
+/* Of a list that stands at what a key names its place is known for a step alone. */
+static void do_steps(struct list *lists, uint64_t *state)
+{
+    enum { STEPS = 200 };
+    for (int k = 0; k < STEPS; k++) {
+        uint64_t random = next_random(state), value = next_random(state);
+        int which = (int)(value % LISTS);
+        if (IS_KEY(which)) lists[which].head = place_by_key(which);
+        step(&lists[which], random, value);
+        if (IS_KEY(which)) lists[which].head = NULL;
+    }
+    operations += STEPS;
+}
+
 static void *work(void *data)
 {
     uint64_t state = (uint64_t)(uintptr_t)data * 0x9E3779B97F4A7C15ull + 1;
     struct node *volatile on_stack[LISTS] = { NULL };
     struct list lists[LISTS];
-    struct node *volatile *by_key = GC_malloc(KEPT * sizeof *by_key);
-    pthread_setspecific(key, (void *)(uintptr_t)by_key);
+    pthread_setspecific(key, GC_malloc(KEPT * sizeof *on_stack));
     for (int k = 0; k < LISTS; k++) {
         lists[k].shadow = calloc(1, sizeof *lists[k].shadow);
         lists[k].head = IS_KEY(k) ? NULL : IS_LOCAL(k) ? &local[k % KEPT] : &on_stack[k];
     }
-    by_key = NULL;
     while (!is_over) {
-        for (int k = 0; k < 200; k++) {
-            uint64_t random = next_random(&state), value = next_random(&state);
-            int which = (int)(value % LISTS);
-            struct list *list = &lists[which];
-            if (IS_KEY(which)) list->head = (struct node *volatile *)pthread_getspecific(key) + which % KEPT;
-            switch (random % 64) {
-            case 0: compare(*list->head, list->shadow); break;
-            case 1: reverse(list); break;
-            case 2: renew_end(list, value); break;
-            case 3: case 4: exchange(list, value >> 8); break;
-            case 5: if (random % 1024 < 64) drop(list); break;
-            case 6: if (random % 8192 < 64) hand_over(list); break;
-            case 7: if (random % 65536 < 64) GC_gcollect(); break;
-            case 8: if (random % 4096 < 64) memset(GC_malloc(5000), 7, 5000); break;
-            case 9: if (random % 65536 < 64) GC_do_blocking(rest, NULL); break;
-            case 10: if (random % 1024 < 64) *(uint64_t *)GC_malloc_atomic(3000) = 1; break;
-            case 11: {
-                char *freed = GC_malloc(48);
-                memset(freed, 1, 48);
-                GC_free(freed);
-                break;
-            }
-            default:
-                if (random % 2 == 0)
-                    pop(list);
-                else
-                    push(list, value);
-            }
-            if (IS_KEY(which)) list->head = NULL;
-        }
-        operations += 200;
+        do_steps(lists, &state);
         if (now() > until) is_over = 1;
     }
-    for (int k = 0; k < LISTS; k++) {
-        struct node *volatile *head = IS_KEY(k) ? (struct node *volatile *)pthread_getspecific(key) + k % KEPT : lists[k].head;
-        compare(*head, lists[k].shadow);
-    }
+    for (int k = 0; k < LISTS; k++) compare(IS_KEY(k) ? *place_by_key(k) : *lists[k].head, lists[k].shadow);
     return NULL;
 }
 
