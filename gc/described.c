@@ -16,13 +16,13 @@ static void *procs[MPGC_PROCS];
 // To the core a described object is pointer-free: so most words are no base of one, which their pages tell.
 static struct described *at_base(uintptr_t base) { return mpgc_kind_at(base) == POINTER_FREE ? mpgc_described_at(base) : NULL; }
 
-static uintptr_t base_of(const struct described *one) { return ~one->hidden; }
-
 void mpgc_forget_described(uintptr_t base)
 {
     struct described *one = at_base(base);
     if (one) mpgc_drop_record(one);
 }
+
+static uint32_t granule_of(uintptr_t base) { return (uint32_t)((base - FIRST) / GRANULE + 1); }
 
 size_t mpgc_count_described(void) { return mpgc_records.count - mpgc_records.gone; }
 
@@ -39,7 +39,7 @@ void mpgc_describe(void *object, size_t step, size_t bytes, GC_word descriptor, 
 {
     mpgc_lock();
     mpgc_know_more((uintptr_t)object);
-    mpgc_add_record(&(struct described){ GC_HIDE_POINTER(object), .descriptor = descriptor, .step = step, .bytes = bytes, .kind = kind });
+    mpgc_add_record(&(struct described){ descriptor, granule_of((uintptr_t)object), (uint32_t)step, (uint32_t)bytes, kind, 0, 0 });
     mpgc_unlock();
 }
 
@@ -68,13 +68,33 @@ void mpgc_will_be_read(struct described *one)
     to_read = (uint32_t)(one - mpgc_records.at) + 1;
 }
 
-// The word is a root. If it is a described object it will be read.
+// What isn't the base of a described object may still lead to some: not where a page of small pointer-free objects has none.
+static bool leads_on;
+static bool may_lead_on(uintptr_t word)
+{
+    size_t page = mpgc_page_of(word);
+    return mpgc.kind[page] == ORDINARY || mpgc.granules[page] == 0 || mpgc_has_described(page);
+}
+
+// Whether what was read since this was last asked may lead to described objects that aren't marked before the rest is.
+bool mpgc_has_led_on(void)
+{
+    bool answer = leads_on;
+    leads_on = false;
+    return answer;
+}
+
+// The word is a root. If it is a described object it will be read; one that will be is a root already.
 static void push(uintptr_t word)
 {
     if (!mpgc_takes_roots() || !mpgc_is_inside(word)) return;
     struct described *one = at_base(word);
-    if (one && !mpgc_was_read(one)) mpgc_will_be_read(one);
-    if (!mpgc_is_marked_here(word)) mpgc_mark_from(word);
+    if (one ? mpgc_was_read(one) : mpgc_is_marked_here(word)) return;
+    if (one)
+        mpgc_will_be_read(one);
+    else
+        leads_on |= may_lead_on(word);
+    mpgc_mark_from(word);
 }
 
 SHOWN void *GC_mark_and_push(void *object, void *top, void *limit, void **from);
@@ -136,7 +156,7 @@ static void push_by(GC_word *words, GC_word descriptor)
 
 static void read_one(const struct described *one)
 {
-    for (size_t at = 0; at + one->step <= one->bytes; at += one->step) push_by((GC_word *)(base_of(one) + at), one->descriptor);
+    for (size_t at = 0; at + one->step <= one->bytes; at += one->step) push_by((GC_word *)(mpgc_base_of(one) + at), one->descriptor);
 }
 
 // Those that will be are read, with what they lead to without others between: of about so many words. Answers whether
@@ -148,7 +168,8 @@ bool mpgc_read_those(uint64_t *left)
         uint64_t words = 1 + one->bytes / WORD;
         to_read = one->next_to_read;
         *left -= words < *left ? words : *left;
-        if (one->hidden != 0) read_one(one);
+        if (one->granule != 0) read_one(one);
+        mpgc_figures.described += words;
     }
     return to_read == 0;
 }

@@ -59,6 +59,7 @@ void mpgc_mark_all(void)
 // The roots are on the stack, or marked.
 void mpgc_end_marks(void)
 {
+    mpgc_figures.described = 0;
     if (mpgc_count_links() == 0 && mpgc_count_described() == 0 && !mpgc_has_to_find()) return;
     is_ending = true;
     has_marked_all = false;

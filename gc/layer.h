@@ -108,7 +108,7 @@ struct layer {
     volatile uint8_t is_noted[MAX_PAGES];
     uint16_t pins[MAX_PAGES];          // so many threads have the kernel write there: it makes no fault, so the page stays open, and dirty
     _Atomic uint64_t uncollectable[MAX_PAGES * PAGE / GRANULE / 64];  // a bit a granule, at the bases of such objects
-    atomic_size_t reserved;            // how many such bits there are, or more
+    atomic_bool are_some_reserved;     // there was ever such a bit
     struct thread first;               // the thread that opened the heap
     struct thread *threads;            // all that are known
     bool is_threaded;                  // there was ever a second one
@@ -266,20 +266,23 @@ HIDDEN void mpgc_count_entry(void);
 
 // records.c. A described object, whose words are read as its descriptor says.
 struct described {
-    uintptr_t hidden;       // its base; 0 where it was freed
     GC_word descriptor;
-    size_t step;            // bytes to which the descriptor applies, again and again
-    size_t bytes;           // of all of these
-    int kind;
+    uint32_t granule;       // at which it begins: one more than there are before it; 0 where it was freed
+    uint32_t step;          // bytes to which the descriptor applies, again and again
+    uint32_t bytes;         // of all of these
+    int32_t kind;
     uint32_t reading;       // in which it was read last, or will be
     uint32_t next_to_read;
 };
+_Static_assert(MAX_PAGES * PAGE <= (uint64_t)1 << 32, "an object may have more bytes than its record tells");
+static inline uintptr_t mpgc_base_of(const struct described *one) { return FIRST + (one->granule - (size_t)1) * GRANULE; }
 struct records {
     struct described *at;
     size_t count, room, gone;
     unsigned long moves;    // so often they got other places
 };
 HIDDEN extern struct records mpgc_records;
+HIDDEN bool mpgc_has_described(size_t page);
 HIDDEN struct described *mpgc_described_at(uintptr_t base);
 HIDDEN void mpgc_add_record(const struct described *one);
 HIDDEN void mpgc_drop_record(struct described *one);
@@ -291,6 +294,7 @@ HIDDEN void mpgc_begin_reading(void);
 HIDDEN bool mpgc_was_read(const struct described *one);
 HIDDEN void mpgc_will_be_read(struct described *one);
 HIDDEN bool mpgc_read_those(uint64_t *left);
+HIDDEN bool mpgc_has_led_on(void);
 
 // ending.c and readings.c
 HIDDEN void mpgc_end_marks(void);

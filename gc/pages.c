@@ -77,11 +77,25 @@ bool mpgc_is_uncollectable(uintptr_t base)
     return mpgc_is_inside(base) && mpgc.uncollectable[granule / 64] >> granule % 64 & 1;
 }
 
+// While there is one thread its handlers alone might come between: not into one instruction.
+static void change(_Atomic uint64_t *word, uint64_t bit, bool on)
+{
+    if (mpgc.is_threaded)
+        (void)(on ? atomic_fetch_or(word, bit) : atomic_fetch_and(word, ~bit));
+    else if (on)
+        __asm__ volatile("orq %1, %0" : "+m"(*word) : "r"(bit) : "cc");
+    else
+        __asm__ volatile("andq %1, %0" : "+m"(*word) : "r"(~bit) : "cc");
+}
+
 void mpgc_set_uncollectable(uintptr_t base, bool on)
 {
-    size_t granule = (base - FIRST) / GRANULE;
-    uint64_t bit = (uint64_t)1 << granule % 64, old;
-    if (on) mpgc.reserved++;  // first, since a handler may collect at any moment
-    old = on ? atomic_fetch_or(&mpgc.uncollectable[granule / 64], bit) : atomic_fetch_and(&mpgc.uncollectable[granule / 64], ~bit);
-    if (old & bit) mpgc.reserved--;
+    size_t granule = (base - FIRST) / GRANULE, bytes = mpgc_words_of(base) * WORD;
+    if (!mpgc.are_some_reserved) mpgc.are_some_reserved = true;  // first, since a handler may collect at any moment
+    atomic_signal_fence(memory_order_seq_cst);
+    change(&mpgc.uncollectable[granule / 64], (uint64_t)1 << granule % 64, on);
+    if (mpgc.is_threaded)
+        (void)__atomic_fetch_add(&GC_non_gc_bytes, on ? bytes : -bytes, __ATOMIC_RELAXED);
+    else
+        GC_non_gc_bytes += on ? bytes : -bytes;
 }

@@ -9,18 +9,18 @@
 // Counted under roots, links, finalizers and kinds.
 #include "layer.h"
 
-static bool is_marked(const struct described *one) { return mpgc_is_marked_here(~one->hidden); }
+static bool is_marked(const struct described *one) { return mpgc_is_marked_here(mpgc_base_of(one)); }
 
 // ---- Looking at all ----
 
 #define NONE SIZE_MAX
 
-// A look at so many records, the newest first, or the oldest, since chains mostly lead from the one to the other. What was read may lead to one
-// that isn't marked yet: where such ones come, all is marked that was read of, and they are looked at again. That is done at the first, or, where
-// it was for nothing, when twice as many have come.
+// A look at so many records, the newest first, or the oldest, since chains mostly lead from the one to the other. What was read may lead by
+// others to one that isn't marked yet: where such ones come, all is marked that was read of, and they are looked at again. That is done at the
+// first, or, where it was for nothing, when twice as many have come. Where nothing led on by others, no other walk is needed.
 struct walk {
-    bool newest_first, has_read;
-    bool is_left;          // one was read, and not all is marked that it leads to
+    bool newest_first, has_led_on;
+    bool is_left;          // what was read leads on, and not all is marked that it leads to
     size_t count, at;      // of so many, this one is next
     size_t first, last;    // of those that came; and the last that is looked at again
     size_t passed, patience;
@@ -40,7 +40,7 @@ static struct described *nth(const struct walk *walk, size_t at)
 static void fetch_ahead(const struct walk *walk)
 {
     enum { AHEAD = 8 };
-    if (walk->at + AHEAD < walk->count) __builtin_prefetch((void *)~nth(walk, walk->at + AHEAD)->hidden);
+    if (walk->at + AHEAD < walk->count) __builtin_prefetch((void *)mpgc_base_of(nth(walk, walk->at + AHEAD)));
 }
 
 // The next one will be read, if it is marked and wasn't yet. Answers whether all is to be marked before another one is looked at.
@@ -48,10 +48,9 @@ static bool look_at_next(struct walk *walk)
 {
     fetch_ahead(walk);
     struct described *one = nth(walk, walk->at);
-    bool is_unread = one->hidden != 0 && !mpgc_was_read(one);
+    bool is_unread = one->granule != 0 && !mpgc_was_read(one);
     if (is_unread && is_marked(one)) {
         mpgc_will_be_read(one);
-        walk->has_read = walk->is_left = true;
         if (walk->last != NONE) walk->patience = 0;
     } else if (is_unread && walk->is_left && walk->first == NONE) {
         walk->first = walk->at;
@@ -59,6 +58,14 @@ static bool look_at_next(struct walk *walk)
     if (walk->at == walk->last) walk->last = NONE;
     walk->at++;
     return walk->first != NONE && walk->passed++ >= walk->patience;
+}
+
+// Those are read that will be, of so many words. Answers whether that was all.
+static bool read_those(struct walk *walk, uint64_t *left)
+{
+    bool is_all = mpgc_read_those(left);
+    if (mpgc_has_led_on()) walk->has_led_on = walk->is_left = true;
+    return is_all;
 }
 
 // All is marked that was read of.
@@ -74,24 +81,24 @@ static void look_again(struct walk *walk)
 
 // ---- At a cycle's end ----
 
-// Those that are marked and weren't read yet are read, with all that these lead to. Answers whether any were.
+// Those that are marked and weren't read yet are read, with all that these lead to. Answers whether there may be more of them by then.
 bool mpgc_read_described(bool newest_first)
 {
     struct walk walk = begin_walk(newest_first, mpgc_records.count);
     uint64_t all = UINT64_MAX;
     while (walk.at < walk.count) {
         bool is_due = look_at_next(&walk);
-        (void)mpgc_read_those(&all);
+        (void)read_those(&walk, &all);
         if (!is_due) continue;
         mpgc_mark_words();
         look_again(&walk);
     }
-    if (walk.is_left) mpgc_mark_words();
-    return walk.has_read;
+    mpgc_mark_words();  // what the last ones lead to
+    return walk.has_led_on;
 }
 
-// All is marked that stays.
-void mpgc_drop_described(void) { mpgc_keep_records(is_marked); }
+// All is marked that stays, and those of it were read.
+void mpgc_drop_described(void) { mpgc_keep_records(mpgc_was_read); }
 
 // ---- Before it ----
 
@@ -115,7 +122,7 @@ static void begin_early(void)
 static bool begin_next(void)
 {
     enum { MOST = 16 };
-    bool follows = early.has_read && ++walks < MOST;
+    bool follows = early.has_led_on && ++walks < MOST;
     if (!follows) walks = 0;
     early = begin_walk(!follows || !early.newest_first, early.count);
     return follows;
@@ -136,11 +143,11 @@ static bool mark_some(uint64_t *left)
 // Answers whether there is more to do.
 static bool go_on(uint64_t *left)
 {
-    bool is_due = false, is_read = mpgc_read_those(left);
+    bool is_due = false, is_read = read_those(&early, left);
     while (*left > 0 && early.at < early.count && !is_due) {
         is_due = look_at_next(&early);
         --*left;
-        is_read = mpgc_read_those(left);
+        is_read = read_those(&early, left);
     }
     if (!mark_some(left) || !is_read) return true;
     if (is_due) look_again(&early);

@@ -1,92 +1,90 @@
 // The described objects, one behind the other in the order in which they were made, so that who looks at all of them reads memory in a row; and
-// by its base, where each stands. Trusted, not proved.
+// of each page that has had any, by the granules at which they begin, where each stands. Trusted, not proved.
 //
-// Bases are kept hidden, so that no record keeps anything. Where an object was freed its record stays, without a base, until the next
-// collection's end, or until there is no more room. What allocates here runs with no other thread stopped (table.c).
+// A record has the number of a granule and no address, so that none keeps anything. Where an object was freed its record stays, without a granule,
+// until the next collection's end, or until there is no more room. What allocates here runs with no other thread stopped (table.c).
 // Counted under roots, links, finalizers and kinds.
 #include "layer.h"
 #include <stdlib.h>
-#include <string.h>
+#include <sys/mman.h>
+
+enum { GRANULES = PAGE / GRANULE };
 
 struct records mpgc_records;
-static uint32_t *places;  // twice the room, a power of two: numbers of records, from 1 on, and 0 where there is none
+static uint32_t **places;  // of a page, by its granules: numbers of records, from 1 on, and 0 where there is none
 
-static size_t next_place(size_t place) { return (place + 1) & (2 * mpgc_records.room - 1); }
+static uint32_t *place_at(size_t granule) { return places[granule / GRANULES] + granule % GRANULES; }
 
-static size_t first_place(uintptr_t hidden) { return (hidden / WORD * 0x9E3779B97F4A7C15u >> 20) & (2 * mpgc_records.room - 1); }
+static bool is_gone(const struct described *one) { return one->granule == 0; }
+
+static uint32_t *place_of(const struct described *one) { return place_at(one->granule - 1); }
+
+bool mpgc_has_described(size_t page) { return places && places[page]; }
 
 struct described *mpgc_described_at(uintptr_t base)
 {
-    if (mpgc_records.count == 0) return NULL;
-    for (size_t place = first_place(~base); places[place] != 0; place = next_place(place)) {
-        struct described *one = &mpgc_records.at[places[place] - 1];
-        if (one->hidden == ~base) return one;
-    }
-    return NULL;
+    if (!mpgc_has_described(mpgc_page_of(base)) || base % GRANULE != 0) return NULL;
+    uint32_t number = *place_at((base - FIRST) / GRANULE);
+    return number != 0 ? &mpgc_records.at[number - 1] : NULL;
 }
 
-static bool is_gone(size_t index) { return mpgc_records.at[index].hidden == 0; }
+static void put(size_t index) { *place_of(&mpgc_records.at[index]) = (uint32_t)index + 1; }
 
-// Where one stood that is gone another one may stand, so that a base which is described again and again has one place.
-static void put(size_t index)
-{
-    size_t place = first_place(mpgc_records.at[index].hidden);
-    while (places[place] != 0 && !is_gone(places[place] - 1)) place = next_place(place);
-    places[place] = (uint32_t)index + 1;
-}
-
-// The first records are these, and no other is.
-static void keep_first(size_t count)
-{
-    memset(&mpgc_records.at[count], 0, (mpgc_records.count - count) * sizeof *mpgc_records.at);
-    memset(places, 0, 2 * mpgc_records.room * sizeof *places);
-    mpgc_records.count = count;
-    mpgc_records.gone = 0;
-    mpgc_records.moves++;
-    for (size_t k = 0; k < count; k++) put(k);
-}
-
-// Only those stay that have a base still, of which the test says so. Nothing is allocated.
+// Only those stay that are there still, of which the test says so. Nothing is allocated.
 void mpgc_keep_records(bool (*stays)(const struct described *one))
 {
+    struct records *all = &mpgc_records;
     size_t left = 0;
-    for (size_t k = 0; k < mpgc_records.count; k++) {
-        const struct described *one = &mpgc_records.at[k];
-        if (is_gone(k)) continue;
-        if (stays && !stays(one))
-            mpgc_figures.entries--;
-        else
-            mpgc_records.at[left++] = *one;
+    for (size_t k = 0; k < all->count; k++) {
+        struct described *one = &all->at[k];
+        if (is_gone(one)) continue;
+        if (stays && !stays(one)) {
+            *place_of(one) = 0;
+            continue;
+        }
+        all->at[left] = *one;
+        if (left != k) put(left);
+        left++;
     }
-    if (left < mpgc_records.count) keep_first(left);
+    if (left < all->count) all->moves++;
+    all->count = left;
+    all->gone = 0;
 }
 
 static void grow(void)
 {
     struct records *all = &mpgc_records;
     size_t larger = all->room ? 2 * all->room : 64;
-    free(places);
     all->at = realloc(all->at, larger * sizeof *all->at);
-    places = calloc(2 * larger, sizeof *places);
-    if (!all->at || !places) mpgc_stop("no memory for a described object");
+    if (!all->at) mpgc_stop("no memory for a described object");
     all->room = larger;
-    for (size_t k = 0; k < all->count; k++)
-        if (!is_gone(k)) put(k);
 }
 
+// The page gets places for its granules, which it has from then on. The pages' own are addresses that take no memory before they are used.
+static void make_places(size_t page)
+{
+    int flags = MAP_PRIVATE | MAP_ANONYMOUS | MAP_NORESERVE;
+    if (!places) places = mmap(NULL, MAX_PAGES * sizeof *places, PROT_READ | PROT_WRITE, flags, -1, 0);
+    if (places == MAP_FAILED) mpgc_stop("no addresses for described objects");
+    places[page] = calloc(GRANULES, sizeof **places);
+    if (!places[page]) mpgc_stop("no memory for the described objects of a page");
+}
+
+// It stands at its granule.
 void mpgc_add_record(const struct described *one)
 {
     struct records *all = &mpgc_records;
+    size_t page = (one->granule - 1) / GRANULES;
+    if (!mpgc_has_described(page)) make_places(page);
     if (all->count == all->room && all->gone > all->room / 2) mpgc_keep_records(NULL);
     if (all->count == all->room) grow();
     all->at[all->count] = *one;
     put(all->count++);
-    mpgc_count_entry();
 }
 
 void mpgc_drop_record(struct described *one)
 {
-    one->hidden = 0;
+    *place_of(one) = 0;
+    one->granule = 0;
     mpgc_records.gone++;
-    mpgc_figures.entries--;
 }

@@ -155,9 +155,6 @@ static void *keep(void *object)
 {
     if (!mpgc_is_inside((uintptr_t)object)) return object;
     mpgc_set_uncollectable((uintptr_t)object, true);
-    mpgc_lock();
-    GC_non_gc_bytes += mpgc_words_of((uintptr_t)object) * WORD;
-    mpgc_unlock();
     return object;
 }
 
@@ -178,10 +175,7 @@ __attribute__((noinline)) static void free_by_core(uint64_t base)
         mpgc_forget_described(base);
     }
     mpgc_figures.freed += words;
-    if (mpgc_is_uncollectable(base)) {
-        mpgc_set_uncollectable(base, false);
-        GC_non_gc_bytes -= words * WORD;
-    }
+    if (mpgc_is_uncollectable(base)) mpgc_set_uncollectable(base, false);
     mpgc_free_in(base);
     mpgc_unlock();
 }

@@ -70,7 +70,7 @@ UNSEEN static bool is_empty(const uint64_t *words, size_t granules)
 }
 
 // A handler that comes between is given objects, if the run has some, but changes it no further. A thread that is stopped between has a root
-// more.
+// more. An uncollectable one is that no more before the run has it to give out, and not before it is that root.
 UNSEEN static bool put_back(struct thread *self, struct run *run, uintptr_t base, size_t granules)
 {
     self->takes_back = 1;
@@ -79,6 +79,8 @@ UNSEEN static bool put_back(struct thread *self, struct run *run, uintptr_t base
     if (has_put) {
         memset((void *)base, 0, granules * GRANULE);
         run->bases[run->end % RUN_OBJECTS] = base;
+        atomic_signal_fence(memory_order_seq_cst);
+        if (mpgc.are_some_reserved && mpgc_is_uncollectable(base)) mpgc_set_uncollectable(base, false);
         atomic_signal_fence(memory_order_seq_cst);
         run->end++;
         self->taken_back += granules * (GRANULE / WORD);
@@ -107,7 +109,7 @@ UNSEEN bool mpgc_take_back(uintptr_t base)
     struct thread *self = mpgc_self;
     if (!self || self->takes_back || !mpgc_is_inside(base)) return false;
     size_t page = mpgc_page_of(base), granules = mpgc.granules[page];
-    if (granules == 0 || mpgc.has_more[page] || (mpgc.reserved > 0 && mpgc_is_uncollectable(base))) return false;
+    if (granules == 0 || mpgc.has_more[page]) return false;
     struct run *run = mpgc_run_of(self, granules, mpgc.kind[page]);
     if (run->end == 0 || !has_room(run, granules) || !(is_young(base) || is_kept(base))) return false;
     return !is_empty((const uint64_t *)base, granules) && put_back(self, run, base, granules);

@@ -195,7 +195,7 @@ bool mpgc_from_here(bool (*work)(void *), void *data)
 
 static void scan_uncollectable(void)
 {
-    for (size_t k = 0; mpgc.reserved != 0 && k < mpgc.size * (PAGE / GRANULE / 64); k++)
+    for (size_t k = 0; mpgc.are_some_reserved && k < mpgc.size * (PAGE / GRANULE / 64); k++)
         for (uint64_t bits = mpgc.uncollectable[k]; bits != 0; bits &= bits - 1)
             push(FIRST + (k * 64 + (size_t)__builtin_ctzll(bits)) * GRANULE);
 }

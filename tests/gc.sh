@@ -69,7 +69,7 @@ if command -v clang >"$room/said"; then CC=clang build "$room/clang"; else skip 
 . "$top/tests/gc/parts/headers.sh"
 
 # Each function, each place of roots, and what stands round the barrier.
-for test in functions settings macros inline limits links frees pacing leaks unmapped finalizers typed kinds asking roots barrier crowded \
+for test in functions settings macros inline limits links frees uncollectable pacing leaks unmapped finalizers typed kinds asking roots barrier crowded \
     kernel signals handlers moments process shadow threads world loading registering stopping turns goodbyes suspending faulting waiting leaving \
     joining behind together collector marking stacks; do
     "${c[@]}" "$top/tests/gc/$test.c" "-L$room" -lmpgc "-Wl,-rpath,$room" -pthread -o "$room/$test" 2>"$room/said"
@@ -89,7 +89,7 @@ counted "frees, beside the collector's thread" env GC_COLLECTOR_THREAD=1 "$room/
 counted pacing "$room/pacing"
 counted "pacing, in small steps" env GC_ENABLE_INCREMENTAL=1 "$room/pacing"
 counted leaks "$room/leaks"
-for test in inline unmapped finalizers typed kinds asking registering leaving waiting; do
+for test in inline unmapped uncollectable finalizers typed kinds asking registering leaving waiting; do
     counted "$test" "$room/$test"
     counted "$test, in small steps" env INCREMENTAL=1 "$room/$test"
 done
@@ -154,7 +154,7 @@ else
     skip libc.a "programs that are linked statically"
 fi
 if [ -e /usr/include/gc/gc_mark.h ]; then
-    for test in functions settings macros inline links pacing leaks unmapped finalizers typed kinds asking registering leaving stacks; do
+    for test in functions settings macros inline links uncollectable pacing leaks unmapped finalizers typed kinds asking registering leaving stacks; do
         cc -std=c11 -O1 -w -DOTHER "$top/tests/gc/$test.c" -lgc -o "$room/${test}_bdw"
         counted "$test, over bdwgc" "$room/${test}_bdw"
     done
@@ -192,7 +192,7 @@ counted "collector, over a core that checks what is owed" env "LD_LIBRARY_PATH=$
 for test in stopping turns goodbyes suspending faulting; do
     counted "$test, over that core" env "LD_LIBRARY_PATH=$room/checking" "$room/$test"
 done
-for test in functions settings links finalizers typed kinds asking registering roots barrier kernel; do
+for test in functions settings links uncollectable finalizers typed kinds asking registering roots barrier kernel; do
     counted "$test, beside the collector's thread" env GC_COLLECTOR_THREAD=1 "$room/$test"
 done
 counted "world, beside the collector's thread" env GC_COLLECTOR_THREAD=1 "$room/world" "${locals[@]}"

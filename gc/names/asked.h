@@ -7,7 +7,7 @@
 struct figures {
     uint64_t since, total, freed;  // words: asked for since the last collection and in all, and freed since
     uint64_t next;                 // words asked for at which a request looks what is due
-    uint64_t marked;               // words of ordinary objects that the last collection has read
+    uint64_t marked, described;    // words of ordinary objects that the last collection has read, and of described ones
     uint64_t roots;                // and of roots: bytes
     size_t entries, most_entries;  // of all tables (table.c), and past how many a request looks what is due
     size_t limit;                  // the most pages that the program lets the heap have

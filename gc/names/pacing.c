@@ -1,11 +1,11 @@
 // When to collect: what a program asks for, and what is due. It answers, and the audited files do.
 //
 // bdwgc's pace, by its free space divisor. So many words have to be asked for between two collections as are in proportion to what the next
-// one will read: twice what is kept of ordinary objects, a quarter of the pointer-free ones, and the roots; before a cycle in small steps no fewer
-// than 16 pages hold. A full collection waits besides until the heap has filled the pages that it may have: where it has grown past them before so
-// much was asked for, it may have a third more, and 16 pages more at least. What the program has freed itself wasn't asked for, but for an
-// eighth. Pages that it asked for beforehand (GC_expand_hp) are filled first, and a cycle in small steps begins when half of those that are left
-// are. As with bdwgc, a collection also comes where links, finalizers and described objects have become a third more, since a weak table keeps
+// one will read: twice what is kept of ordinary and described objects, a quarter of the other pointer-free ones, and the roots; before a cycle
+// in small steps no fewer than 16 pages hold. A full collection waits besides until the heap has filled the pages that it may have: where it has
+// grown past them before so much was asked for, it may have a third more, and 16 pages more at least. What the program has freed itself wasn't
+// asked for, but for an eighth. Pages that it asked for beforehand (GC_expand_hp) are filled first, and a cycle in small steps begins when half of
+// those that are left are. As with bdwgc, a collection also comes where links and finalizers have become a third more, since a weak table keeps
 // what is dead until then.
 #include "paced.h"
 #include <stdlib.h>
@@ -69,6 +69,13 @@ static uint64_t marked_in(size_t used)
     return mpgc_figures.marked < most ? mpgc_figures.marked : most;
 }
 
+// And of described ones, which to the core are pointer-free.
+static uint64_t described_in(size_t used)
+{
+    uint64_t most = words_of(used, POINTER_FREE);
+    return mpgc_figures.described < most ? mpgc_figures.described : most;
+}
+
 // And of pointer-free ones, which it left.
 static uint64_t pointer_free_in(size_t used)
 {
@@ -80,7 +87,7 @@ static void set_budget_for(size_t used)
 {
     uint64_t room = (mpgc_figures.limit > used ? mpgc_figures.limit - used : 0) * (PAGE / WORD);
     uint64_t most = makes_steps() ? room / 2 : room * 3 / 4;  // a cycle needs room while it marks
-    kept = marked_in(used);
+    kept = marked_in(used) + described_in(used);
     budget = (2 * kept + pointer_free_in(used) / 4 + mpgc_figures.roots / WORD + OWN) / divisor();
     uint64_t spare = (granted > used ? granted - used : 0) * (PAGE / WORD);
     if (budget < spare / 2) budget = spare / 2;

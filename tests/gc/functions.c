@@ -166,9 +166,14 @@ static NOINLINE void hide_uncollectable(void)
     }
 }
 
+/* They themselves may be given out again: what they led to goes. */
 static NOINLINE void free_uncollectable(void)
 {
-    for (int k = 0; k < 200; k++) GC_free(GC_REVEAL_POINTER(k % 2 ? hidden[k] : (GC_word)keepers[k]));
+    for (int k = 0; k < 200; k++) {
+        void **object = GC_REVEAL_POINTER(k % 2 ? hidden[k] : (GC_word)keepers[k]);
+        hidden[k] = GC_HIDE_POINTER(object[1]);
+        GC_free(object);
+    }
 }
 
 static NOINLINE void uncollectable(void)

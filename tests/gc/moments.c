@@ -154,7 +154,7 @@ static void round_and_round(void)
     turns = 1;
 }
 
-/* A handler is given the object that is being freed. */
+/* A handler is given the object that is being freed: by the core, or where it isn't empty, by what the thread has. */
 static void stay(void)
 {
     size = 100;
@@ -163,6 +163,11 @@ static void stay(void)
     for (int k = 0; k < ROUND; k++) (void)ask();
     old = ask_to_stay();
     CHECK(walk(free_and_ask) && were_stopped > 0);
+    for (int k = 0; k < 2; k++) {
+        old = ask_to_stay();
+        *old = MARK;
+        CHECK(walk(free_and_ask));
+    }
     asks = ask;
     turns = 1;
 }
