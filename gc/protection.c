@@ -147,13 +147,22 @@ static void open_page(size_t page)
     mpgc.is_closed[page] = 0;
 }
 
+// Those of these pages that are closed, and no others: of pointer-free objects the program may have protected some itself.
+static void open_those(size_t first, size_t end)
+{
+    for (size_t page = next_set(mpgc.is_closed, first, end), after; page < end; page = next_set(mpgc.is_closed, after, end)) {
+        for (after = page; after < end && mpgc.is_closed[after];) after++;
+        set_access(page, after - page, PROT_READ | PROT_WRITE);
+        memset((void *)&mpgc.is_closed[page], 0, after - page);
+    }
+}
+
 // The block in which the page lies.
 static void open_block(size_t page)
 {
     size_t first = page - page % BLOCK;
     lower_to(first);
-    set_access(first, BLOCK, PROT_READ | PROT_WRITE);
-    memset((void *)&mpgc.is_closed[first], 0, BLOCK);
+    open_those(first, first + BLOCK);
 }
 
 // While a cycle marks.
@@ -311,8 +320,7 @@ bool mpgc_open_some(void)
 void mpgc_open_all(void)
 {
     if (lowest_closed() == mpgc.size) return;
-    set_access(0, mpgc.size, PROT_READ | PROT_WRITE);
-    memset((void *)mpgc.is_closed, 0, mpgc.size);
+    open_those(0, mpgc.size);
     changes = 0;
 }
 

@@ -70,7 +70,7 @@ if command -v clang >"$room/said"; then CC=clang build "$room/clang"; else skip 
 
 # Each function, each place of roots, and what stands round the barrier.
 for test in functions settings macros inline limits links frees uncollectable pacing leaks unmapped finalizers typed kinds asking roots barrier crowded \
-    kernel signals handlers moments process shadow threads world loading registering stopping turns goodbyes suspending faulting waiting leaving \
+    kernel copies sorting signals handlers moments process shadow threads world loading registering stopping turns goodbyes suspending faulting waiting leaving \
     joining behind together collector marking stacks; do
     "${c[@]}" "$top/tests/gc/$test.c" "-L$room" -lmpgc "-Wl,-rpath,$room" -pthread -o "$room/$test" 2>"$room/said"
     is "$test is built" "" "$(cat "$room/said")"
@@ -97,7 +97,7 @@ counted roots "$room/roots"
 counted "roots, in small steps" env INCREMENTAL=1 "$room/roots"
 counted barrier "$room/barrier"
 counted crowded "$room/crowded"
-counted "kernel" "$room/kernel"
+for test in kernel copies sorting; do counted "$test" "$room/$test"; done
 counted "signals" "$room/signals"
 for setting in FULL GC_ENABLE_INCREMENTAL GC_COLLECTOR_THREAD; do
     counted "handlers, $setting" env $setting=1 "$room/handlers"

@@ -4,6 +4,7 @@
 #include "../front.h"
 #include <dlfcn.h>
 #include <stdatomic.h>
+#include <sys/uio.h>
 
 // Threads may look for it at once, and find the same.
 UNSEEN __attribute__((noinline, unused)) static uintptr_t mpgc_next(atomic_uintptr_t *kept, const char *name, const char *sentence)
@@ -15,6 +16,36 @@ UNSEEN __attribute__((noinline, unused)) static uintptr_t mpgc_next(atomic_uintp
     if (!found) mpgc_stop(sentence);
     atomic_store_explicit(kept, found, memory_order_relaxed);
     return found;
+}
+
+// Places that one call writes to. A thread keeps few apart from each other open at once: so of many all is, from the lowest to the highest.
+struct span { uintptr_t from, to; };
+#define NO_SPAN (struct span){ UINTPTR_MAX, 0 }
+
+__attribute__((unused)) static void mpgc_add_to(struct span *span, const void *at, size_t bytes)
+{
+    uintptr_t from = (uintptr_t)at, to = from + bytes;
+    if (!GC_is_heap_ptr(at) || to < from) return;
+    if (from < span->from) span->from = from;
+    if (to > span->to) span->to = to;
+}
+__attribute__((unused)) static void mpgc_add_parts_to(struct span *span, const struct iovec *parts, size_t count)
+{
+    for (size_t k = 0; k < count; k++) mpgc_add_to(span, parts[k].iov_base, parts[k].iov_len);
+}
+__attribute__((unused)) static void mpgc_will_write_span(const struct span *span)
+{
+    if (span->from < span->to) mpgc_will_write((void *)span->from, span->to - span->from);
+}
+
+__attribute__((unused)) static void mpgc_will_write_parts(const struct iovec *parts, size_t count)
+{
+    enum { FEW = 4 };
+    struct span all = NO_SPAN;
+    for (size_t k = 0; k < count && count <= FEW; k++) mpgc_will_write(parts[k].iov_base, parts[k].iov_len);
+    if (count <= FEW) return;
+    mpgc_add_parts_to(&all, parts, count);
+    mpgc_will_write_span(&all);
 }
 
 #define NEXT(answer, name, words) \

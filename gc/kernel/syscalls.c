@@ -1,6 +1,7 @@
 // Calls of the C library by which the kernel writes into the program's memory: files. A closed page makes no fault then: the call would
-// answer EFAULT. So the pages are told and opened first. Only in libmpgc.so, with those of sockets, waiting and times (syscalls_more.c), others (syscalls_others.c) and
-// the checked names of these (syscalls_checked.c); what is in none of them answers EFAULT, as with bdwgc, and loses nothing.
+// answer EFAULT. So the pages are told and opened first. Only in libmpgc.so, with those of sockets, waiting and times (syscalls_more.c), copies
+// (syscalls_copies.c), queues (syscalls_queues.c), others (syscalls_others.c) and the checked names of these (syscalls_checked.c); what is in
+// none of them answers EFAULT, as with bdwgc, and loses nothing.
 #include "next.h"
 #include <stdio.h>
 #include <sys/sendfile.h>
@@ -21,16 +22,11 @@ OPENS(char *, getcwd, (char *into, size_t bytes), (into, bytes), into, into ? by
 OPENS(int, pipe, (int ends[2]), (ends), ends, 2 * sizeof *ends)
 OPENS(int, pipe2, (int ends[2], int flags), (ends, flags), ends, 2 * sizeof *ends)
 
-static void will_write_parts(const struct iovec *parts, int count)
-{
-    for (int k = 0; k < count; k++) mpgc_will_write(parts[k].iov_base, parts[k].iov_len);
-}
-
 #define READS_PARTS(name, words, values) \
     SHOWN ssize_t name words \
     { \
         NEXT(ssize_t, name, words); \
-        will_write_parts(parts, count); \
+        mpgc_will_write_parts(parts, count > 0 ? (size_t)count : 0); \
         SAYS(next values); \
     }
 READS_PARTS(readv, (int file, const struct iovec *parts, int count), (file, parts, count))

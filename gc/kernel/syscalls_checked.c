@@ -16,6 +16,7 @@ CHECKED(ssize_t, __pread64_chk, (int file, void *into, size_t bytes, off64_t fro
 CHECKED(ssize_t, __readlink_chk, (const char *path, char *into, size_t bytes, size_t room), (path, into, bytes, room), into, bytes)
 CHECKED(ssize_t, __readlinkat_chk, (int folder, const char *path, char *into, size_t bytes, size_t room),
         (folder, path, into, bytes, room), into, bytes)
+CHECKED(int, __getgroups_chk, (int most, gid_t *into, size_t room), (most, into, room), into, room)
 CHECKED(char *, __getcwd_chk, (char *into, size_t bytes, size_t room), (into, bytes, room), into, bytes)
 CHECKED(ssize_t, __recv_chk, (int file, void *into, size_t bytes, size_t room, int flags), (file, into, bytes, room, flags), into, bytes)
 CHECKED(int, __poll_chk, (struct pollfd *files, nfds_t count, int timeout, size_t room), (files, count, timeout, room), files,

@@ -46,8 +46,7 @@ static void will_write_message(struct msghdr *message)
     mpgc_will_write(message, sizeof *message);
     mpgc_will_write(message->msg_name, message->msg_namelen);
     mpgc_will_write(message->msg_control, message->msg_controllen);
-    for (size_t k = 0; k < message->msg_iovlen; k++)
-        mpgc_will_write(message->msg_iov[k].iov_base, message->msg_iov[k].iov_len);
+    mpgc_will_write_parts(message->msg_iov, message->msg_iovlen);
 }
 
 SHOWN ssize_t recvmsg(int file, struct msghdr *message, int flags)
@@ -60,9 +59,16 @@ SHOWN ssize_t recvmsg(int file, struct msghdr *message, int flags)
 SHOWN int recvmmsg(int file, struct mmsghdr *messages, unsigned count, int flags, struct timespec *timeout)
 {
     NEXT(int, recvmmsg, (int, struct mmsghdr *, unsigned, int, struct timespec *));
-    mpgc_will_write(messages, count * sizeof *messages);
-    mpgc_will_write(timeout, sizeof *timeout);
-    for (unsigned k = 0; messages && k < count; k++) will_write_message(&messages[k].msg_hdr);
+    struct span all = NO_SPAN;
+    mpgc_add_to(&all, messages, count * sizeof *messages);
+    mpgc_add_to(&all, timeout, sizeof *timeout);
+    for (unsigned k = 0; messages && k < count; k++) {
+        const struct msghdr *one = &messages[k].msg_hdr;
+        mpgc_add_to(&all, one->msg_name, one->msg_namelen);
+        mpgc_add_to(&all, one->msg_control, one->msg_controllen);
+        mpgc_add_parts_to(&all, one->msg_iov, one->msg_iovlen);
+    }
+    mpgc_will_write_span(&all);
     SAYS(next(file, messages, count, flags, timeout));
 }
 

@@ -90,6 +90,24 @@ static int protects_itself(void)
     return 0;
 }
 
+/* And one of a pointer-free object: that stays protected, through cycles that open pages beside it and a full collection. */
+static void *volatile kept[3000];
+static int protects_what_is_pointer_free(void)
+{
+    alarm(60);
+    GC_enable_incremental();
+    signal(SIGSEGV, open_it);
+    for (int k = 0; k < 300000; k++) kept[k % 3000] = GC_malloc(64);
+    char *object = GC_malloc_atomic(16384);
+    protected = (char *)(((uintptr_t)object + 4095) & ~(uintptr_t)4095);
+    if (mprotect(protected, 4096, PROT_NONE) != 0) return 9;
+    for (int k = 0; k < 2000000; k++) kept[k % 3000] = GC_malloc(64);
+    GC_start_incremental_collection();
+    GC_gcollect();
+    *(volatile char *)protected = 1;
+    return opened == 1 ? 0 : 1;
+}
+
 int main(void)
 {
     alarm(300);
@@ -98,5 +116,6 @@ int main(void)
     CHECK(status_of(made_blocked) == 0);
     CHECK(status_of(writes_to_one_word) == 0);
     CHECK(status_of(protects_itself) == 0);
+    CHECK(status_of(protects_what_is_pointer_free) == 0);
     return check_ends();
 }

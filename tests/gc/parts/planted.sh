@@ -74,7 +74,7 @@ faults_are_noticed() {
     done
 }
 
-for file in syscalls syscalls_more syscalls_others syscalls_checked syscalls_threads; do
-    cc -std=c11 -O1 -fvisibility=hidden -c "$top/gc/kernel/$file.c" -o "$room/$file.o"
+for file in "$top"/gc/kernel/syscalls*.c; do
+    cc -std=c11 -O1 -fvisibility=hidden -c "$file" -o "$room/$(basename "$file" .c).o"
 done
 faults_are_noticed

@@ -1,0 +1,68 @@
+// Calls of the C library by which the kernel writes into the program's memory, as in syscalls.c: queues of messages, semaphores and memory that
+// processes share, and what is told of a process. Only in libmpgc.so.
+#include "next.h"
+#include <mqueue.h>
+#include <stdarg.h>
+#include <sys/msg.h>
+#include <sys/prctl.h>
+#include <sys/resource.h>
+#include <sys/sem.h>
+#include <sys/shm.h>
+
+#define RECEIVES(name, words, values) \
+    SHOWN ssize_t name words \
+    { \
+        NEXT(ssize_t, name, words); \
+        mpgc_will_write(into, bytes); \
+        mpgc_will_write(priority, sizeof *priority); \
+        SAYS(next values); \
+    }
+RECEIVES(mq_receive, (mqd_t queue, char *into, size_t bytes, unsigned *priority), (queue, into, bytes, priority))
+RECEIVES(mq_timedreceive,
+         (mqd_t queue, char *restrict into, size_t bytes, unsigned *restrict priority, const struct timespec *restrict until),
+         (queue, into, bytes, priority, until))
+OPENS(int, mq_getattr, (mqd_t queue, struct mq_attr *into), (queue, into), into, sizeof *into)
+OPENS(int, mq_setattr, (mqd_t queue, const struct mq_attr *restrict next_one, struct mq_attr *restrict old), (queue, next_one, old), old,
+      sizeof *old)
+
+OPENS(int, msgctl, (int queue, int command, struct msqid_ds *into), (queue, command, into), into, sizeof *into)
+OPENS(int, shmctl, (int shared, int command, struct shmid_ds *into), (shared, command, into), into, sizeof *into)
+
+// Of a pointer that may stand there: so many bytes, or as far as its object goes.
+static void will_write_as_far(void *into, size_t most)
+{
+    uintptr_t base;
+    size_t words;
+    if (!GC_is_heap_ptr(into) || !mpgc_find((uintptr_t)into, &base, &words)) return;
+    size_t left = base + words * WORD - (uintptr_t)into;
+    mpgc_will_write(into, left < most ? left : most);
+}
+
+// Of all semaphores of a set it is told by two bytes for each.
+SHOWN int semctl(int set, int number, int command, ...)
+{
+    enum { MOST = 1 << 16 };
+    NEXT(int, semctl, (int, int, int, void *));
+    va_list rest;
+    va_start(rest, command);
+    void *into = va_arg(rest, void *);
+    va_end(rest);
+    will_write_as_far(into, MOST);
+    SAYS(next(set, number, command, into));
+}
+
+SHOWN int prctl(int option, ...)
+{
+    enum { MOST = 16, WORDS = 4 };
+    NEXT(int, prctl, (int, unsigned long, unsigned long, unsigned long, unsigned long));
+    unsigned long words[WORDS];
+    va_list rest;
+    va_start(rest, option);
+    for (int k = 0; k < WORDS; k++) words[k] = va_arg(rest, unsigned long);
+    va_end(rest);
+    will_write_as_far((void *)words[0], MOST);
+    SAYS(next(option, words[0], words[1], words[2], words[3]));
+}
+
+OPENS(int, prlimit64, (pid_t process, __rlimit_resource_t which, const struct rlimit64 *next_one, struct rlimit64 *old),
+      (process, which, next_one, old), old, sizeof *old)

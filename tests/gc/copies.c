@@ -1,0 +1,194 @@
+/* System calls as in kernel.c that write into closed pages: what the kernel copies between files, pipes, messages and processes, attributes of
+ * files, queues, semaphores, limits, and the old names of those that tell of files. And calls that have many places to write to, and wait, while
+ * cycles close pages beside them. */
+#define _GNU_SOURCE
+#define GC_THREADS
+#include <dlfcn.h>
+#include <errno.h>
+#include <fcntl.h>
+#include <mqueue.h>
+#include <pthread.h>
+#include <stdint.h>
+#include <sys/msg.h>
+#include <sys/prctl.h>
+#include <sys/resource.h>
+#include <sys/sem.h>
+#include <sys/shm.h>
+#include <sys/socket.h>
+#include <sys/stat.h>
+#include <sys/uio.h>
+#include <sys/xattr.h>
+#include "check.h"
+#include "cycle.h"
+#include "watch.h"
+
+/* Each into an object of its own, whose page is closed when the kernel writes there. */
+static void *place(void)
+{
+    static int at;
+    at += 2;
+    return ordinary[at];
+}
+
+static int file_with(const char *text)
+{
+    char path[] = "/tmp/mpgc.XXXXXX";
+    int file = mkstemp(path);
+    if (file < 0 || unlink(path) != 0 || write(file, text, strlen(text)) != (ssize_t)strlen(text)) exit(1);
+    return file;
+}
+
+static void of_copies(void)
+{
+    int file = file_with("0123456789"), other = file_with(""), ends[2];
+    off64_t *from = place(), *at = place(), *into = place();
+    if (pipe(ends) != 0) return;
+    CHECK(splice(file, from, ends[1], NULL, 4, 0) == 4 && *from == 4);
+    CHECK(copy_file_range(file, at, other, into, 6, 0) == 6 && *at == 6 && *into == 6);
+    char *text = place(), *read = place();
+    CHECK(vmsplice(ends[0], &(struct iovec){ text, 4 }, 1, 0) == 4 && memcmp(text, "0123", 4) == 0);
+    struct iovec part = { read, 3 }, source = { "abc", 3 };
+    CHECK(process_vm_readv(getpid(), &part, 1, &source, 1, 0) == 3 && memcmp(read, "abc", 3) == 0);
+    CHECK(fsetxattr(file, "user.mpgc", "x", 1, 0) != 0 || (fgetxattr(file, "user.mpgc", read = place(), 9) == 1 && *read == 'x'));
+    CHECK(flistxattr(file, place(), 1000) >= 0 || errno == ENOTSUP);
+    CHECK(getxattr("/", "user.mpgc", place(), 9) >= 0 || errno != EFAULT);
+    CHECK(listxattr("/", place(), 1000) >= 0 || errno == ENOTSUP);
+    close(file);
+    close(other);
+}
+
+/* How many bytes each message had stands in it: so it was filled before its page was closed. */
+static struct mmsghdr *to_send;
+static void of_messages(void)
+{
+    int ends[2];
+    char came[9];
+    CHECK(socketpair(AF_UNIX, SOCK_DGRAM, 0, ends) == 0 && sendmmsg(ends[0], to_send, 1, 0) == 1 && to_send->msg_len == 5);
+    CHECK(recv(ends[1], came, sizeof came, 0) == 5);
+}
+
+static void of_queues(void)
+{
+    mqd_t queue = mq_open("/mpgc_copies", O_RDWR | O_CREAT | O_NONBLOCK, 0600, &(struct mq_attr){ .mq_maxmsg = 4, .mq_msgsize = 64 });
+    struct mq_attr *attributes = place();
+    if (queue == (mqd_t)-1) return;
+    mq_unlink("/mpgc_copies");
+    char *text = place(), *other = place();
+    unsigned *priority = place();
+    CHECK(mq_send(queue, "one", 3, 7) == 0 && mq_receive(queue, text, 64, priority) == 3 && *priority == 7 && memcmp(text, "one", 3) == 0);
+    CHECK(mq_send(queue, "two", 3, 1) == 0 && mq_timedreceive(queue, other, 64, NULL, &(struct timespec){ 0 }) == 3 && *other == 't');
+    CHECK(mq_getattr(queue, attributes) == 0 && attributes->mq_msgsize == 64);
+    CHECK(mq_setattr(queue, &(struct mq_attr){ 0 }, place()) == 0);
+}
+
+static void of_what_is_shared(void)
+{
+    int queue = msgget(IPC_PRIVATE, 0600), shared = shmget(IPC_PRIVATE, 100, 0600), set = semget(IPC_PRIVATE, 4, 0600);
+    struct msqid_ds *of_queue = place();
+    struct shmid_ds *of_memory = place();
+    struct semid_ds *of_set = place();
+    CHECK(queue < 0 || msgctl(queue, IPC_STAT, of_queue) == 0);
+    CHECK(shared < 0 || (shmctl(shared, IPC_STAT, of_memory) == 0 && of_memory->shm_segsz == 100));
+    CHECK(set < 0 || (semctl(set, 0, IPC_STAT, of_set) == 0 && of_set->sem_nsems == 4));
+    unsigned short *values = place();
+    CHECK(set < 0 || (semctl(set, 2, SETVAL, 5) == 0 && semctl(set, 0, GETALL, values) == 0 && values[2] == 5));
+    msgctl(queue, IPC_RMID, NULL);
+    shmctl(shared, IPC_RMID, NULL);
+    semctl(set, 0, IPC_RMID);
+}
+
+extern int __getgroups_chk(int most, gid_t *into, size_t room);
+static void of_processes(void)
+{
+    char *name = place();
+    struct rlimit64 *limit = place();
+    CHECK(prctl(PR_SET_NAME, "copies") == 0 && prctl(PR_GET_NAME, name) == 0 && strcmp(name, "copies") == 0);
+    CHECK(prlimit64(0, RLIMIT_NOFILE, NULL, limit) == 0 && limit->rlim_cur > 0);
+    CHECK(__getgroups_chk(100, place(), 100 * sizeof(gid_t)) >= 0);
+}
+
+static void of_old_names(void)
+{
+    int (*by_path)(int, const char *, struct stat *), (*by_file)(int, int, struct stat *);
+    void *path = dlsym(RTLD_DEFAULT, "__xstat"), *file = dlsym(RTLD_DEFAULT, "__fxstat");
+    struct stat *one = place(), *other = place(), root;
+    int opened = open("/", O_RDONLY);
+    memcpy(&by_path, &path, sizeof path);
+    memcpy(&by_file, &file, sizeof file);
+    CHECK(path && file && stat("/", &root) == 0);
+    CHECK(by_path(1, "/", one) == 0 && one->st_ino == root.st_ino);
+    CHECK(by_file(1, opened, other) == 0 && other->st_ino == root.st_ino);
+    close(opened);
+}
+
+/* A thread waits in one call with many places to write to, which have to stay open through cycles that others make. */
+enum { PARTS = 32, MESSAGES = 8, BETWEEN = 10 };
+static int wires[2];
+static _Atomic int waits;
+static void *read_many(void *unused)
+{
+    struct iovec parts[PARTS];
+    for (int k = 0; k < PARTS; k++) parts[k] = (struct iovec){ ordinary[BETWEEN * k], 1 };
+    waits = 1;
+    ssize_t came = readv(wires[0], parts, PARTS);
+    for (int k = 0; k < PARTS && came == PARTS; k++) came -= ordinary[BETWEEN * k][0] != 'a' + k % 26;
+    return (void *)(came == PARTS ? unused : wires);
+}
+static void *receive_many(void *unused)
+{
+    struct mmsghdr messages[MESSAGES];
+    struct iovec parts[MESSAGES];
+    memset(messages, 0, sizeof messages);
+    for (int k = 0; k < MESSAGES; k++) {
+        parts[k] = (struct iovec){ ordinary[BETWEEN * k + 5], 1 };
+        messages[k].msg_hdr = (struct msghdr){ .msg_iov = &parts[k], .msg_iovlen = 1, .msg_name = ordinary[BETWEEN * k + 6], .msg_namelen = 100 };
+    }
+    waits = 1;
+    int came = recvmmsg(wires[0], messages, MESSAGES, 0, NULL);
+    for (int k = 0; k < MESSAGES && came == MESSAGES; k++) came -= ordinary[BETWEEN * k + 5][0] != 'a' + k;
+    return (void *)(came == MESSAGES ? unused : wires);
+}
+static void beside_cycles(void *(*work)(void *), int count)
+{
+    pthread_t thread;
+    void *answer = wires;
+    waits = 0;
+    GC_pthread_create(&thread, NULL, work, NULL);
+    while (!waits) usleep(100);
+    usleep(50000);
+    for (int k = 0; k < 3; k++) {
+        GC_start_incremental_collection();
+        while (GC_collect_a_little()) continue;
+    }
+    GC_start_incremental_collection();
+    char all[PARTS];
+    for (int k = 0; k < count; k++) all[k] = (char)('a' + k % 26);
+    if (work == read_many) CHECK(write(wires[1], all, (size_t)count) == count);
+    for (int k = 0; k < count && work == receive_many; k++) CHECK(send(wires[1], &all[k], 1, 0) == 1);
+    GC_pthread_join(thread, &answer);
+    CHECK(answer == NULL);
+    end();
+}
+
+int main(void)
+{
+    pid_t watcher = watch(120);
+    GC_INIT();
+    GC_enable_incremental();
+    to_send = GC_malloc(2000);
+    to_send->msg_hdr.msg_iov = GC_malloc(sizeof(struct iovec));
+    *to_send->msg_hdr.msg_iov = (struct iovec){ "hello", 5 };
+    to_send->msg_hdr.msg_iovlen = 1;
+    begin();
+    of_copies();
+    of_messages();
+    of_queues();
+    of_what_is_shared();
+    of_processes();
+    of_old_names();
+    end();
+    if (pipe(wires) == 0) beside_cycles(read_many, PARTS);
+    if (socketpair(AF_UNIX, SOCK_DGRAM, 0, wires) == 0) beside_cycles(receive_many, MESSAGES);
+    kill(watcher, SIGKILL);
+    return check_ends();
+}
