@@ -35,12 +35,13 @@ int mpgc_described_kind(uintptr_t base)
     return kind;
 }
 
-void mpgc_describe(void *object, size_t step, size_t bytes, GC_word descriptor, int kind)
+bool mpgc_describe(void *object, size_t step, size_t bytes, GC_word descriptor, int kind)
 {
     mpgc_lock();
     mpgc_know_more((uintptr_t)object);
-    mpgc_add_record(&(struct described){ descriptor, granule_of((uintptr_t)object), (uint32_t)step, (uint32_t)bytes, kind, 0, 0 });
+    bool is_known = mpgc_add_record(&(struct described){ descriptor, granule_of((uintptr_t)object), (uint32_t)step, (uint32_t)bytes, kind, 0, 0 });
     mpgc_unlock();
+    return is_known;
 }
 
 void mpgc_set_proc(unsigned number, void *marks)

@@ -63,11 +63,11 @@ HIDDEN void mpgc_give_back(size_t from, size_t to);
 
 // Counted under roots, links, finalizers and kinds.
 // Words of an object that has just been made and is pointer-free are read as a descriptor says: so many bytes of it, again and again. And a
-// function that marks has this number. These add to what is read.
+// function that marks has this number. These add to what is read; where there is no memory to know of it the first answers false.
 enum tag { BY_LENGTH, BY_BITMAP, BY_PROC, BY_OBJECT };
 enum { MPGC_PROCS = 64, MPGC_BITMAP_PROC = 7, MPGC_PROC_BITS = 6, MPGC_TAG_BITS = 2, MPGC_TAGS = 3, MPGC_OBJECT_BIAS = 16 };
 struct bitmap { size_t bits; GC_word words[]; };
-HIDDEN void mpgc_describe(void *object, size_t step, size_t bytes, GC_word descriptor, int kind);
+HIDDEN bool mpgc_describe(void *object, size_t step, size_t bytes, GC_word descriptor, int kind);
 HIDDEN void mpgc_set_proc(unsigned number, void *marks);
 
 // While roots are taken, which is at a cycle's end and when the roots are read, what this word points into is marked, or what the words of

@@ -7,7 +7,7 @@
 //
 //   start.c                "`heap` points to an mpheap that was opened and has not been closed since", and is opened once
 //   lock.c world.c         "Calls on one heap are made by one thread at a time", and what another thread writes falls into none that
-//   behind.c               reads the program's words
+//   behind.c delayed.c     reads the program's words
 //   signals.c              ".. and never from a signal handler that interrupted one of them", with CALL and GRANTED below, in which every
 //                          call stands; and a write to a closed page reaches the barrier
 //   protection.c pages.c   the barrier, which is the heart of the layer: "the address was told by mpheap_written first", while a cycle
@@ -179,6 +179,9 @@ HIDDEN struct thread *mpgc_record_of(pthread_t id);
 // behind.c. Whether a signal came to this thread in the moment behind a call under the lock.
 HIDDEN bool mpgc_is_behind(const struct thread *self, const ucontext_t *context);
 
+// delayed.c
+HIDDEN bool mpgc_is_held_back(const struct thread *one, int signal);
+
 // Counted under the rest.
 // Every call of the core stands between two of these: the fault handler then only notes a page, and it is told here. The inner ones stand
 // where the lock is held.
@@ -257,7 +260,7 @@ static inline bool mpgc_is_marked_here(uintptr_t base)
 struct entry { struct entry *next; uintptr_t number; };
 struct table { struct entry **chains; size_t count, room; };
 HIDDEN struct entry **mpgc_place(const struct table *table, uintptr_t number);
-HIDDEN void mpgc_put(struct table *table, struct entry *one);
+HIDDEN bool mpgc_put(struct table *table, struct entry *one);
 HIDDEN struct entry *mpgc_take(struct table *table, struct entry **at);
 HIDDEN void mpgc_push(struct entry **list, struct entry *one);
 HIDDEN struct entry *mpgc_pop(struct entry **list);
@@ -284,7 +287,7 @@ struct records {
 HIDDEN extern struct records mpgc_records;
 HIDDEN bool mpgc_has_described(size_t page);
 HIDDEN struct described *mpgc_described_at(uintptr_t base);
-HIDDEN void mpgc_add_record(const struct described *one);
+HIDDEN bool mpgc_add_record(const struct described *one);
 HIDDEN void mpgc_drop_record(struct described *one);
 HIDDEN void mpgc_keep_records(bool (*stays)(const struct described *one));
 

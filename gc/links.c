@@ -79,8 +79,9 @@ static int set_link(void **word, const void *object, bool is_long)
     mpgc_know_more(base);
     if (*at) return GC_DUPLICATE;
     one->entry.number = GC_HIDE_POINTER(word) - is_long;
-    mpgc_put(&links, &one->entry);
-    return GC_SUCCESS;
+    if (mpgc_put(&links, &one->entry)) return GC_SUCCESS;
+    free(one);
+    return GC_NO_MEMORY;
 }
 
 static int remove_link(void **word, bool is_long)
@@ -100,7 +101,7 @@ static int move_link(void **word, void **into, bool is_long)
     if (!into || (uintptr_t)into % WORD != 0) mpgc_stop("a disappearing link is moved to what isn't the address of a word");
     struct entry *one = mpgc_take(&links, at);
     one->number = GC_HIDE_POINTER(into) - is_long;
-    mpgc_put(&links, one);
+    (void)mpgc_put(&links, one);
     return GC_SUCCESS;
 }
 

@@ -111,8 +111,7 @@ void mpgc_set_keys(struct thread *thread)
 UNSEEN static void **made(void)
 {
     void *at = (void *)syscall(SYS_mmap, NULL, KEYS * sizeof *keys, PROT_READ | PROT_WRITE, MAP_PRIVATE | MAP_ANONYMOUS, -1, 0L);
-    if (at == MAP_FAILED) mpgc_stop("no memory for a thread's keys");
-    return at;
+    return at == MAP_FAILED ? NULL : at;
 }
 
 UNSEEN int mpgc_set_own_key(pthread_key_t key, const void *value)
@@ -125,6 +124,7 @@ UNSEEN SHOWN int pthread_setspecific(pthread_key_t key, const void *value)
 {
     if (value && !keys) {
         keys = made();
+        if (!keys) return ENOMEM;
         if (mpgc_self && mpgc_self->is_late) mpgc_self->late_keys = keys;
     }
     if (keys && key < KEYS) keys[key] = (void *)(uintptr_t)value;

@@ -84,15 +84,18 @@ static void *page_start(size_t page) { return (void *)(FIRST + page * PAGE); }
 
 // Counted under sizes and memory.
 // A run of pages between others of the other kind is a mapping of its own, of which the kernel allows some 65,000 to a process. So from so
-// many changes on no page is closed, and pages are opened by blocks, until all are open again.
+// many changes on, or where the kernel refuses one, since the program has as many itself, no page is closed, and pages are opened by blocks, until
+// all are open again.
 enum { CHANGES = 16000 };
 static size_t changes;
 static bool is_crowded(void) { return changes >= CHANGES; }
 
-static void set_access(size_t page, size_t count, int access)
+static bool is_set(size_t page, size_t count, int access)
 {
     changes++;
-    if (mprotect(page_start(page), count * PAGE, access) != 0) mpgc_stop("the kernel refused to protect a page of the heap");
+    bool answer = mprotect(page_start(page), count * PAGE, access) == 0;
+    if (!answer) changes = CHANGES;
+    return answer;
 }
 
 // Counted under the rest.
@@ -139,12 +142,42 @@ static void lower_to(size_t page)
     while (page < seen && !atomic_compare_exchange_weak(&lowest_open, &seen, page)) continue;
 }
 
-// A handler of the program may write there at any moment: so a page counts as closed until it is open.
+// While a cycle marks.
+static void tell(size_t page)
+{
+    if (mpgc.is_calling)
+        note(page);
+    else
+        tell_now(page);
+}
+
+// Counted under sizes and memory.
+// The kernel refused to part a mapping. So the whole run of closed pages is opened in which this one lies, and told: that parts none.
+static void open_run(size_t page)
+{
+    size_t first = page, end = page + 1;
+    while (first > 0 && mpgc.is_closed[first - 1]) first--;
+    while (end < mpgc.size && mpgc.is_closed[end]) end++;
+    for (size_t at = first; mpgc.is_marking && at < end; at++) tell(at);
+    lower_to(first);
+    if (!is_set(first, end - first, PROT_READ | PROT_WRITE)) mpgc_stop("the kernel refused to open pages of the heap");
+    memset((void *)&mpgc.is_closed[first], 0, end - first);
+}
+
+// Counted under the rest.
+// These pages, which are closed. A handler of the program may write there at any moment: so a page counts as closed until it is open.
+static void open_pages(size_t page, size_t count)
+{
+    if (is_set(page, count, PROT_READ | PROT_WRITE))
+        memset((void *)&mpgc.is_closed[page], 0, count);
+    else
+        open_run(page);
+}
+
 static void open_page(size_t page)
 {
     lower_to(page);
-    set_access(page, 1, PROT_READ | PROT_WRITE);
-    mpgc.is_closed[page] = 0;
+    open_pages(page, 1);
 }
 
 // Those of these pages that are closed, and no others: of pointer-free objects the program may have protected some itself.
@@ -152,8 +185,7 @@ static void open_those(size_t first, size_t end)
 {
     for (size_t page = next_set(mpgc.is_closed, first, end), after; page < end; page = next_set(mpgc.is_closed, after, end)) {
         for (after = page; after < end && mpgc.is_closed[after];) after++;
-        set_access(page, after - page, PROT_READ | PROT_WRITE);
-        memset((void *)&mpgc.is_closed[page], 0, after - page);
+        open_pages(page, after - page);
     }
 }
 
@@ -163,15 +195,6 @@ static void open_block(size_t page)
     size_t first = page - page % BLOCK;
     lower_to(first);
     open_those(first, first + BLOCK);
-}
-
-// While a cycle marks.
-static void tell(size_t page)
-{
-    if (mpgc.is_calling)
-        note(page);
-    else
-        tell_now(page);
 }
 
 // Each closed page of the block is told.
@@ -197,12 +220,13 @@ static bool is_open_ordinary(size_t page) { return mpgc.kind[page] == ORDINARY &
 
 static bool is_to_close(size_t page) { return is_open_ordinary(page) && mpgc.pins[page] == 0; }
 
-// Closes the run of pages from this one on that are to be closed, of at most so many, and answers the page after it.
+// Closes the run of pages from this one on that are to be closed, of at most so many, and answers the page after it. Where the kernel refuses
+// it, some of them may be closed by then: all stay open.
 static size_t close_run(size_t page, size_t most)
 {
     size_t end = page;
     while (end < mpgc.size && end - page < most && is_to_close(end)) mpgc.is_closed[end++] = 1;
-    set_access(page, end - page, PROT_READ);
+    if (!is_set(page, end - page, PROT_READ)) open_pages(page, end - page);
     return end;
 }
 
@@ -263,8 +287,8 @@ bool mpgc_is_one_to_close(void)
 struct pages mpgc_close_lowest(size_t most)
 {
     bool is_one = mpgc_is_one_to_close() && !is_crowded();
-    size_t page = lowest_open;
-    if (is_one) lowest_open = close_run(page, most);
+    size_t page = lowest_open, end = is_one ? close_run(page, most) : page;
+    lowest_open = is_one && mpgc.is_closed[page] ? end : page;
     return (struct pages){ page, lowest_open };
 }
 

@@ -51,35 +51,40 @@ void mpgc_keep_records(bool (*stays)(const struct described *one))
     all->gone = 0;
 }
 
-static void grow(void)
+static bool has_room(void)
 {
     struct records *all = &mpgc_records;
+    if (all->count == all->room && all->gone > all->room / 2) mpgc_keep_records(NULL);
+    if (all->count < all->room) return true;
     size_t larger = all->room ? 2 * all->room : 64;
-    all->at = realloc(all->at, larger * sizeof *all->at);
-    if (!all->at) mpgc_stop("no memory for a described object");
+    struct described *at = realloc(all->at, larger * sizeof *at);
+    if (!at) return false;
+    all->at = at;
     all->room = larger;
+    return true;
 }
 
-// The page gets places for its granules, which it has from then on. The pages' own are addresses that take no memory before they are used.
-static void make_places(size_t page)
+// The page has places for its granules, and keeps them from then on. The pages' own are addresses that take no memory before they are used.
+static bool has_places(size_t page)
 {
     int flags = MAP_PRIVATE | MAP_ANONYMOUS | MAP_NORESERVE;
-    if (!places) places = mmap(NULL, MAX_PAGES * sizeof *places, PROT_READ | PROT_WRITE, flags, -1, 0);
-    if (places == MAP_FAILED) mpgc_stop("no addresses for described objects");
-    places[page] = calloc(GRANULES, sizeof **places);
-    if (!places[page]) mpgc_stop("no memory for the described objects of a page");
+    if (!places) {
+        void *made = mmap(NULL, MAX_PAGES * sizeof *places, PROT_READ | PROT_WRITE, flags, -1, 0);
+        if (made == MAP_FAILED) return false;
+        places = made;
+    }
+    if (!places[page]) places[page] = calloc(GRANULES, sizeof **places);
+    return places[page];
 }
 
-// It stands at its granule.
-void mpgc_add_record(const struct described *one)
+// It stands at its granule. Answers false, and adds nothing, where there is no memory.
+bool mpgc_add_record(const struct described *one)
 {
     struct records *all = &mpgc_records;
-    size_t page = (one->granule - 1) / GRANULES;
-    if (!mpgc_has_described(page)) make_places(page);
-    if (all->count == all->room && all->gone > all->room / 2) mpgc_keep_records(NULL);
-    if (all->count == all->room) grow();
+    if (!has_places((one->granule - 1) / GRANULES) || !has_room()) return false;
     all->at[all->count] = *one;
     put(all->count++);
+    return true;
 }
 
 void mpgc_drop_record(struct described *one)

@@ -25,11 +25,12 @@ struct entry *mpgc_pop(struct entry **list)
     return one;
 }
 
+// Where there is no memory, chains become longer.
 static void grow(struct table *table)
 {
     struct table larger = { .room = table->room ? 2 * table->room : 64, .count = table->count };
     larger.chains = calloc(larger.room, sizeof *larger.chains);
-    if (!larger.chains) mpgc_stop("no memory for a table of the layer's");
+    if (!larger.chains) return;
     for (size_t k = 0; k < table->room; k++) {
         while (table->chains[k]) {
             struct entry *one = mpgc_pop(&table->chains[k]);
@@ -46,13 +47,15 @@ void mpgc_count_entry(void)
     if (++mpgc_figures.entries > mpgc_figures.most_entries) mpgc_figures.next = 0;
 }
 
-// No entry has its number.
-void mpgc_put(struct table *table, struct entry *one)
+// No entry has its number. Answers false, and puts nothing there, where there is no memory for the first.
+bool mpgc_put(struct table *table, struct entry *one)
 {
-    if (table->count == table->room) grow(table);
+    if (table->count >= table->room) grow(table);
+    if (table->room == 0) return false;
     mpgc_push(mpgc_place(table, one->number), one);
     table->count++;
     mpgc_count_entry();
+    return true;
 }
 
 struct entry *mpgc_take(struct table *table, struct entry **at)

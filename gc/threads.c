@@ -45,13 +45,6 @@ static void unlink_record(struct thread *record)
     if (record != &mpgc.first) free(record);
 }
 
-static struct thread *new_record(void)
-{
-    struct thread *record = calloc(1, sizeof *record);
-    if (!record) mpgc_stop("no memory for a thread's record");
-    return record;
-}
-
 static struct thread *with_id(struct thread *one, pthread_t id)
 {
     while (one && !pthread_equal(one->id, id)) one = one->next;
@@ -136,7 +129,8 @@ void mpgc_know_this(const struct GC_stack_base *base)
     if (!mpgc.is_threaded) mpgc_stop("a thread that nobody told of calls in: call GC_allow_register_threads first");
     mpgc_block_signals(&old);
     if (!mpgc_self) {
-        struct thread *self = new_record();
+        struct thread *self = calloc(1, sizeof *self);
+        if (!self) mpgc_stop("no memory for a thread's record");
         self->is_late = has_said_goodbye;
         find_this(self, base);
         self->id = pthread_self();
@@ -200,7 +194,8 @@ int GC_pthread_create(pthread_t *thread, const pthread_attr_t *attributes, void 
     int is_detached = PTHREAD_CREATE_JOINABLE;
     mpgc_enter();
     be_threaded();
-    struct thread *record = new_record();
+    struct thread *record = calloc(1, sizeof *record);
+    if (!record) return EAGAIN;
     record->start = start;
     if (attributes) pthread_attr_getdetachstate(attributes, &is_detached);
     record->is_detached = is_detached == PTHREAD_CREATE_DETACHED;

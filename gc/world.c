@@ -149,6 +149,20 @@ static uint32_t tell_others(int signal)
     return count;
 }
 
+// Whether this thread is to stop, and hasn't answered.
+static bool is_awaited(const struct thread *one)
+{
+    return one != mpgc_self && one->state == RUNNING && !one->is_suspended && one->stop != turn;
+}
+
+// Of those that are late the kernel holds back each.
+static bool are_held_back(void)
+{
+    const struct thread *one = mpgc.threads;
+    while (one && (!is_awaited(one) || mpgc_is_held_back(one, SUSPEND))) one = one->next;
+    return !one;
+}
+
 // By short waits: one that was about to end when it was told won't answer, and while the whole process is stopped, for however long, none can.
 static void await(uint32_t sent)
 {
@@ -157,7 +171,7 @@ static void await(uint32_t sent)
     for (uint32_t seen = answers; seen < sent; seen = answers) {
         if (wait_while(&answers, seen, &moment) == 0 || errno != ETIMEDOUT) continue;
         sent = tell_others(0);
-        if (++late == PATIENCE) mpgc_stop("a thread didn't stop: does it block SIGPWR?");
+        if (++late % PATIENCE == 0 && !are_held_back()) mpgc_stop("a thread didn't stop: does it block SIGPWR?");
     }
 }
 

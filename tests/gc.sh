@@ -69,7 +69,7 @@ if command -v clang >"$room/said"; then CC=clang build "$room/clang"; else skip 
 . "$top/tests/gc/parts/headers.sh"
 
 # Each function, each place of roots, and what stands round the barrier.
-for test in functions settings macros inline limits links frees uncollectable pacing leaks unmapped finalizers typed kinds asking roots barrier crowded \
+for test in functions settings macros inline limits links frees uncollectable pacing leaks unmapped finalizers typed kinds asking without_memory roots barrier crowded mapped \
     kernel copies sorting signals handlers moments process shadow threads world loading registering stopping turns goodbyes suspending faulting waiting leaving \
     joining behind together collector marking stacks; do
     "${c[@]}" "$top/tests/gc/$test.c" "-L$room" -lmpgc "-Wl,-rpath,$room" -pthread -o "$room/$test" 2>"$room/said"
@@ -96,7 +96,7 @@ done
 counted roots "$room/roots"
 counted "roots, in small steps" env INCREMENTAL=1 "$room/roots"
 counted barrier "$room/barrier"
-counted crowded "$room/crowded"
+for test in crowded mapped without_memory; do counted "$test" "$room/$test"; done
 for test in kernel copies sorting; do counted "$test" "$room/$test"; done
 counted "signals" "$room/signals"
 for setting in FULL GC_ENABLE_INCREMENTAL GC_COLLECTOR_THREAD; do

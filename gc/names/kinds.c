@@ -20,8 +20,7 @@ static void *make_described(size_t elements, size_t bytes, GC_word descriptor, i
     if (!GC_is_heap_ptr(object)) return object;
     memset(object, 0, GC_size(object));
     bool is_read = all > 0 && (!is_length || descriptor > 0);
-    if (is_read) mpgc_describe(object, bytes, all, descriptor, kind);
-    return object;
+    return is_read && !mpgc_describe(object, bytes, all, descriptor, kind) ? mpgc_out_of_memory(all) : object;
 }
 
 static void *of_own_kind(size_t bytes, int kind)

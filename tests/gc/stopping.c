@@ -1,14 +1,17 @@
-/* What makes it hard to stop threads: that they are cancelled in a call of the system, handle signals while they begin and end; and that the
- * whole process is stopped meanwhile. */
+/* What makes it hard to stop threads: that they are cancelled in a call of the system, handle signals while they begin and end, wait where the kernel
+ * holds their signals back, or block them; and that the whole process is stopped meanwhile. */
 #define _GNU_SOURCE
 #define GC_THREADS
 #include <pthread.h>
 #include <signal.h>
 #include <stdint.h>
+#include <sys/syscall.h>
 #include <time.h>
 #include "gc.h"
 #include "beside.h"
 #include "check.h"
+
+static _Atomic int stage;
 
 /* Threads that wait in a call of the system are cancelled, beside collections. */
 enum { TOGETHER = 8, CANCELLERS = 3, ROUNDS = 60 };
@@ -93,19 +96,31 @@ static int handles_signals(void)
     return pthread_join(sender, NULL);
 }
 
-/* The process is stopped for longer than a thread is waited for, in the middle of a stop of the world. */
+/* A thread waits for its child by vfork, where the kernel holds its signals back: for longer than one is waited for that is told and doesn't answer. */
+static int seconds_to_start;
 static void *start_slowly(void *data)
 {
     GC_malloc(16);
     if (vfork() == 0) {
-        rest(3);
+        rest(seconds_to_start);
         _exit(0);
     }
     return data;
 }
-static int is_stopped_itself(void)
+static int collect_beside_a_start(int seconds)
 {
     pthread_t thread;
+    seconds_to_start = seconds;
+    if (pthread_create(&thread, NULL, start_slowly, NULL) != 0) return 1;
+    rest(0.5);
+    GC_gcollect();
+    return pthread_join(thread, NULL);
+}
+static int waits_for_a_slow_one(void) { return collect_beside_a_start(22); }
+
+/* The process is stopped for as long, in the middle of a stop of the world. */
+static int is_stopped_itself(void)
+{
     pid_t parent = getpid();
     if (fork() == 0) {
         rest(1.5);
@@ -114,11 +129,27 @@ static int is_stopped_itself(void)
         kill(parent, SIGCONT);
         _exit(0);
     }
-    if (pthread_create(&thread, NULL, start_slowly, NULL) != 0) return 1;
-    rest(0.5);
-    GC_gcollect();
-    return pthread_join(thread, NULL);
+    return collect_beside_a_start(3);
 }
+
+/* One that blocks the signal by the kernel's own call is waited for no longer. */
+static void *block_all(void *data)
+{
+    uint64_t every = UINT64_MAX;
+    GC_malloc(16);
+    syscall(SYS_rt_sigprocmask, SIG_SETMASK, &every, NULL, sizeof every);
+    for (stage = 1;;) pause();
+    return data;
+}
+static void beside_one_that_blocks(void)
+{
+    pthread_t thread;
+    alarm(100);
+    if (pthread_create(&thread, NULL, block_all, NULL) != 0) return;
+    while (stage == 0) rest(0.01);
+    GC_gcollect();
+}
+static int is_told_of_one_that_blocks(void) { return !stops_with(beside_one_that_blocks, "a thread didn't stop"); }
 
 static pid_t begin_in_child(int (*body)(void))
 {
@@ -132,11 +163,15 @@ int main(void)
     alarm(300);
     GC_INIT();
     GC_allow_register_threads();
-    int status = -1;
-    pid_t stopped = begin_in_child(is_stopped_itself);
+    int (*const slow[])(void) = { is_stopped_itself, waits_for_a_slow_one, is_told_of_one_that_blocks };
+    pid_t children[3];
+    for (int k = 0; k < 3; k++) children[k] = begin_in_child(slow[k]);
     CHECK(status_of(handles_signals) == 0);
     cancelled();
-    while (waitpid(stopped, &status, 0) < 0) continue;
-    CHECK(WIFEXITED(status) && WEXITSTATUS(status) == 0);
+    for (int k = 0; k < 3; k++) {
+        int status = -1;
+        while (waitpid(children[k], &status, 0) < 0) continue;
+        CHECK(WIFEXITED(status) && WEXITSTATUS(status) == 0);
+    }
     return check_ends();
 }
