@@ -352,7 +352,7 @@ static const char *lowest(const char *low, const char *bottom)
     int kept = errno;
     while (at > low && mincore(at - PAGE, PAGE, &answer) == 0 && mpgc_can_be_read(at - WORD)) at -= PAGE;
     errno = kept;
-    return at;
+    return at > low ? at : low;  // a stack that the program gave may begin in the middle of a page
 }
 
 // The process's first stack may have grown past where it might end when the thread was looked at, since the program has allowed it more: then all

@@ -118,19 +118,35 @@ static void *handle_elsewhere(void *data)
     return data;
 }
 
-/* Another thread collects in each stage of the blocked one. */
+/* Another thread collects in each stage of the blocked one, which may have a stack that the program gave. */
+static const pthread_attr_t *attributes;
 static void in_thread(void *(*body)(void *), void (*in_handler)(void))
 {
     pthread_t thread;
     work = in_handler;
     stage = collected = 0;
-    if (GC_pthread_create(&thread, NULL, body, NULL) != 0) abort();
+    if (GC_pthread_create(&thread, attributes, body, NULL) != 0) abort();
     for (int k = 1; in_handler == block && k <= 2; k++) {
         wait_for(&stage, k);
         collect_often();
         collected = k;
     }
     GC_pthread_join(thread, NULL);
+}
+
+/* It begins in the middle of a page. */
+static void on_stacks_of_malloc(void)
+{
+    pthread_attr_t of_malloc;
+    char *stack = malloc(2 * BYTES);
+    pthread_attr_init(&of_malloc);
+    if (!stack || pthread_attr_setstack(&of_malloc, (char *)(((uintptr_t)stack + GUARD) & ~(uintptr_t)(GUARD - 1)) + 48, BYTES) != 0) abort();
+    attributes = &of_malloc;
+    for (int k = 0; k < 10; k++) in_thread(handle_there, collect_often);
+    for (int k = 0; k < 10; k++) in_thread(handle_there, block);
+    attributes = NULL;
+    pthread_attr_destroy(&of_malloc);
+    free(stack);
 }
 
 int main(void)
@@ -149,6 +165,8 @@ int main(void)
     for (int k = 0; k < 10; k++) in_thread(handle_elsewhere, collect_often);
     CHECK(lost == 0);
     for (int k = 0; k < 10; k++) in_thread(handle_elsewhere, block);
+    CHECK(lost == 0);
+    on_stacks_of_malloc();
     CHECK(lost == 0);
     return check_ends();
 }
