@@ -18,8 +18,26 @@ OPENS(ssize_t, msgrcv, (int queue, void *into, size_t bytes, long kind, int flag
 OPENS(int, pthread_getname_np, (pthread_t thread, char *into, size_t bytes), (thread, into, bytes), into, bytes)
 OPENS(int, pthread_getaffinity_np, (pthread_t thread, size_t bytes, cpu_set_t *into), (thread, bytes, into), into, bytes)
 OPENS(int, sched_getparam, (pid_t process, struct sched_param *into), (process, into), into, sizeof *into)
-OPENS(int, prlimit, (pid_t process, __rlimit_resource_t which, const struct rlimit *next_one, struct rlimit *old),
-      (process, which, next_one, old), old, sizeof *old)
+
+// A limit of data, by which closed pages wouldn't be opened any more: so they are before.
+#define LIMITS(name, words, values, old, size) \
+    SHOWN int name words \
+    { \
+        NEXT(int, name, words); \
+        mpgc_will_write(old, size); \
+        GC_alloc_lock(); \
+        if (which == RLIMIT_DATA) mpgc_leave_open(); \
+        int answer = next values; \
+        GC_alloc_unlock(); \
+        mpgc_wrote(); \
+        return answer; \
+    }
+#define LIMITS_OF(end) \
+    LIMITS(setrlimit##end, (__rlimit_resource_t which, const struct rlimit##end *next_one), (which, next_one), NULL, 0) \
+    LIMITS(prlimit##end, (pid_t process, __rlimit_resource_t which, const struct rlimit##end *next_one, struct rlimit##end *old), \
+           (process, which, next_one, old), old, sizeof *old)
+LIMITS_OF()
+LIMITS_OF(64)
 
 #define TELLS_THREE(name, id) \
     SHOWN int name(id *real, id *effective, id *saved) \

@@ -5,7 +5,6 @@
 #include <stdarg.h>
 #include <sys/msg.h>
 #include <sys/prctl.h>
-#include <sys/resource.h>
 #include <sys/sem.h>
 #include <sys/shm.h>
 
@@ -63,6 +62,3 @@ SHOWN int prctl(int option, ...)
     will_write_as_far((void *)words[0], MOST);
     SAYS(next(option, words[0], words[1], words[2], words[3]));
 }
-
-OPENS(int, prlimit64, (pid_t process, __rlimit_resource_t which, const struct rlimit64 *next_one, struct rlimit64 *old),
-      (process, which, next_one, old), old, sizeof *old)

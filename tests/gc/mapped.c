@@ -1,8 +1,10 @@
-/* In a process that has nearly as many mappings as the kernel allows, pages can't be protected one by one, and some can't be opened alone: lists whose
- * ends change places while cycles go on keep all that is theirs. Each number of mappings that are left is tried in a child. */
+/* In a process that has nearly as many mappings as the kernel allows, pages can't be protected one by one, and some can't be opened alone; and in one
+ * that may have less data than it has, none could: lists whose ends change places while cycles go on keep all that is theirs. Each number of
+ * mappings that are left, and the limit of data, is tried in a child. */
 #define _GNU_SOURCE
 #include <stdint.h>
 #include <sys/mman.h>
+#include <sys/resource.h>
 #include "gc.h"
 #include "check.h"
 
@@ -27,7 +29,8 @@ static void make_lists(void)
 }
 
 /* Every second page of a range is a mapping of its own, as far as the kernel allows; and some of these are given back. */
-static int leave_few_mappings(size_t left)
+static size_t left;
+static int leave_few_mappings(void)
 {
     size_t bytes = (size_t)1 << 30, k = 0;
     char *all = mmap(NULL, bytes, PROT_READ | PROT_WRITE, MAP_PRIVATE | MAP_ANONYMOUS | MAP_NORESERVE, -1, 0);
@@ -49,7 +52,9 @@ static void exchange(uint64_t random)
     other->next = next;
 }
 
-static size_t left;
+static int limit_data(void) { return setrlimit(RLIMIT_DATA, &(struct rlimit){ (rlim_t)1 << 30, (rlim_t)1 << 30 }) == 0; }
+
+static int (*hinder)(void) = leave_few_mappings;
 static int loses_nothing(void)
 {
     uint64_t random = 1;
@@ -59,7 +64,7 @@ static int loses_nothing(void)
     make_lists();
     GC_gcollect();
     GC_start_incremental_collection();
-    if (!leave_few_mappings(left)) return 1;
+    if (!hinder()) return 1;
     for (int k = 0; k < STEPS; k++) {
         random = random * 6364136223846793005u + 1442695040888963407u;
         exchange(random);
@@ -78,5 +83,7 @@ int main(void)
         left = lefts[k];
         CHECK(status_of(loses_nothing) == 0);
     }
+    hinder = limit_data;
+    CHECK(status_of(loses_nothing) == 0);
     return check_ends();
 }
