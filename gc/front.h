@@ -50,9 +50,11 @@ HIDDEN uintptr_t mpgc_linked(const char *name);
 HIDDEN void mpgc_collect(void);
 HIDDEN void mpgc_step(uint64_t words);
 
-// Pages that are still closed are opened: some, if no cycle marks, which answers whether there were; or all, and told if one does.
+// Pages that are still closed are opened: some, if no cycle marks, which answers whether there were; or all, and told if one does; or all, and none is
+// closed any more.
 HIDDEN bool mpgc_open_some(void);
 HIDDEN void mpgc_leave_open(void);
+HIDDEN void mpgc_close_no_more(void);
 
 // More pages are counted as the heap's, if there are: nothing is known of a page, and nothing owed for it, before an object lies there.
 HIDDEN bool mpgc_grow(size_t pages);

@@ -312,7 +312,6 @@ HIDDEN bool mpgc_learn(uintptr_t base, size_t words, enum page_kind kind);
 HIDDEN void mpgc_set_uncollectable(uintptr_t base, bool on);
 
 // protection.c
-HIDDEN void mpgc_know_limit(void);
 HIDDEN void mpgc_let_write(size_t page);
 HIDDEN void mpgc_holds_ordinary(size_t page);
 HIDDEN void mpgc_holds_pointer_free(size_t page);

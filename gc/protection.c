@@ -75,9 +75,6 @@
 #include <errno.h>
 #include <string.h>
 #include <sys/mman.h>
-#include <sys/resource.h>
-#include <sys/syscall.h>
-#include <unistd.h>
 
 static bool is_closing;            // pages are being closed, and then a cycle begins
 static atomic_size_t lowest_open;  // while a cycle marks, no open page of ordinary objects lies below, but pinned ones
@@ -91,22 +88,8 @@ static void *page_start(size_t page) { return (void *)(FIRST + page * PAGE); }
 // all are open again.
 enum { CHANGES = 16000 };
 static size_t changes;
-static bool is_crowded(void) { return changes >= CHANGES; }
-
-// Closed pages are no data to the kernel, and it refuses to open them where there may be no more of that. The heap fits the limit that the process
-// had when it was opened; where that is lower now, no page is closed either. (And before it is lowered all are opened: kernel/syscalls_others.c.)
-static rlim_t data_at_start;
-static rlim_t data_limit(void)
-{
-    struct rlimit limit;
-    return syscall(SYS_getrlimit, RLIMIT_DATA, &limit) == 0 ? limit.rlim_cur : RLIM_INFINITY;
-}
-void mpgc_know_limit(void) { data_at_start = data_limit(); }
-
-static void mind_limit(void)
-{
-    if (data_limit() < data_at_start) changes = CHANGES;
-}
+static bool is_limited;  // none is closed from now on
+static bool is_crowded(void) { return is_limited || changes >= CHANGES; }
 
 static bool is_set(size_t page, size_t count, int access)
 {
@@ -269,7 +252,6 @@ bool mpgc_close_some(void)
     must_be_closing();
     enum { BLOCKS = 4 };
     size_t end = closing + BLOCKS * BLOCK < mpgc.size ? closing + BLOCKS * BLOCK : mpgc.size;
-    mind_limit();
     while (closing < end) closing = is_to_close(closing) && !is_crowded() ? close_run(closing, end - closing) : closing + 1;
     return closing < mpgc.size;
 }
@@ -305,7 +287,6 @@ bool mpgc_is_one_to_close(void)
 // or no more may.
 struct pages mpgc_close_lowest(size_t most)
 {
-    mind_limit();
     bool is_one = mpgc_is_one_to_close() && !is_crowded();
     size_t page = lowest_open, end = is_one ? close_run(page, most) : page;
     lowest_open = is_one && mpgc.is_closed[page] ? end : page;
@@ -378,6 +359,17 @@ void mpgc_leave_open(void)
     mpgc_unlock();
 }
 
+// Counted under sizes and memory.
+// Closed pages are no data to the kernel: so it would refuse to open them, where the process comes to have more than it may.
+void mpgc_close_no_more(void)
+{
+    mpgc_lock();
+    is_limited = true;
+    mpgc_leave_open();
+    mpgc_unlock();
+}
+
+// Counted under the rest.
 // While a cycle marks, ordinary objects came to lie on a page of another kind.
 void mpgc_holds_ordinary(size_t page)
 {

@@ -19,25 +19,32 @@ OPENS(int, pthread_getname_np, (pthread_t thread, char *into, size_t bytes), (th
 OPENS(int, pthread_getaffinity_np, (pthread_t thread, size_t bytes, cpu_set_t *into), (thread, bytes, into), into, bytes)
 OPENS(int, sched_getparam, (pid_t process, struct sched_param *into), (process, into), into, sizeof *into)
 
-// A limit of data, by which closed pages wouldn't be opened any more: so they are before.
-#define LIMITS(name, words, values, old, size) \
-    SHOWN int name words \
+// Where the limit of this process's data is made lower, closed pages wouldn't be opened any more.
+static void will_limit(pid_t process, int which, const struct rlimit64 *next_one)
+{
+    NEXT(int, getrlimit64, (__rlimit_resource_t, struct rlimit64 *));
+    struct rlimit64 now;
+    bool is_ours = which == RLIMIT_DATA && (process == 0 || process == getpid());
+    if (is_ours && next_one && next(RLIMIT_DATA, &now) == 0 && next_one->rlim_cur < now.rlim_cur) mpgc_close_no_more();
+}
+_Static_assert(sizeof(struct rlimit) == sizeof(struct rlimit64), "two limits are one");
+
+#define LIMITS(end) \
+    SHOWN int setrlimit##end(__rlimit_resource_t which, const struct rlimit##end *next_one) \
     { \
-        NEXT(int, name, words); \
-        mpgc_will_write(old, size); \
-        GC_alloc_lock(); \
-        if (which == RLIMIT_DATA) mpgc_leave_open(); \
-        int answer = next values; \
-        GC_alloc_unlock(); \
-        mpgc_wrote(); \
-        return answer; \
+        NEXT(int, setrlimit##end, (__rlimit_resource_t, const struct rlimit##end *)); \
+        will_limit(0, (int)which, (const struct rlimit64 *)next_one); \
+        return next(which, next_one); \
+    } \
+    SHOWN int prlimit##end(pid_t process, __rlimit_resource_t which, const struct rlimit##end *next_one, struct rlimit##end *old) \
+    { \
+        NEXT(int, prlimit##end, (pid_t, __rlimit_resource_t, const struct rlimit##end *, struct rlimit##end *)); \
+        will_limit(process, (int)which, (const struct rlimit64 *)next_one); \
+        mpgc_will_write(old, sizeof *old); \
+        SAYS(next(process, which, next_one, old)); \
     }
-#define LIMITS_OF(end) \
-    LIMITS(setrlimit##end, (__rlimit_resource_t which, const struct rlimit##end *next_one), (which, next_one), NULL, 0) \
-    LIMITS(prlimit##end, (pid_t process, __rlimit_resource_t which, const struct rlimit##end *next_one, struct rlimit##end *old), \
-           (process, which, next_one, old), old, sizeof *old)
-LIMITS_OF()
-LIMITS_OF(64)
+LIMITS()
+LIMITS(64)
 
 #define TELLS_THREE(name, id) \
     SHOWN int name(id *real, id *effective, id *saved) \

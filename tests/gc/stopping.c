@@ -116,7 +116,7 @@ static int collect_beside_a_start(int seconds)
     GC_gcollect();
     return pthread_join(thread, NULL);
 }
-static int waits_for_a_slow_one(void) { return collect_beside_a_start(22); }
+static int waits_for_a_slow_one(void) { return collect_beside_a_start(26); }
 
 /* The process is stopped for as long, in the middle of a stop of the world. */
 static int is_stopped_itself(void)
