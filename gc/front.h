@@ -124,6 +124,8 @@ HIDDEN bool mpgc_is_one_standing(void);
 HIDDEN size_t mpgc_count_links(void);
 HIDDEN size_t mpgc_count_described(void);
 HIDDEN void *mpgc_this_thread(void);
+// Whether another thread may stop this one: which may make requests then, since it is known, isn't blocked and hasn't the lock.
+HIDDEN bool mpgc_may_be_stopped(void);
 HIDDEN char *mpgc_stack_bottom(void);
 HIDDEN void mpgc_find_stack(const char **low, const char **bottom);
 

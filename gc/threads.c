@@ -376,6 +376,8 @@ bool mpgc_first_is_at_home(void)
 
 void *mpgc_this_thread(void) { return mpgc_self; }
 
+bool mpgc_may_be_stopped(void) { return mpgc.is_threaded && mpgc_self && mpgc_self->state == RUNNING && mpgc_lock_depth == 0; }
+
 char *mpgc_stack_bottom(void)
 {
     mpgc_enter();

@@ -1,6 +1,6 @@
 // The C library's sorting, which moves elements through room that it asks malloc for: so while it writes them back a thread may be stopped that has
-// some of the program's pointers nowhere else. Where there are threads, and words of the elements point into the heap, the room is an object of
-// the heap, and read with the elements. Only in libmpgc.so.
+// some of the program's pointers nowhere else. Where it may be, and words of the elements point into the heap, the room is an object of the heap,
+// and read with the elements. Only in libmpgc.so.
 //
 // As with that of the C library equal elements stay in their order. What is behind each step: of a run that is merged all elements stand in the
 // array until all stand in the room, and then there until they are copied back.
@@ -50,7 +50,7 @@ static void *room_for(const void *elements, size_t count, size_t size)
 {
     enum { FEW = 512 };  // bytes
     size_t bytes;
-    if (!mpgc_is_threaded() || !mpgc_this_thread() || (uintptr_t)elements % WORD != 0 || size % WORD != 0) return NULL;
+    if (!mpgc_may_be_stopped() || (uintptr_t)elements % WORD != 0 || size % WORD != 0) return NULL;
     if (__builtin_mul_overflow(count, size, &bytes) || bytes < FEW || !points(elements, bytes)) return NULL;
     return GC_malloc(bytes);
 }

@@ -96,6 +96,30 @@ static void each_length(void)
     CHECK(right);
 }
 
+#ifndef OTHER
+/* Who has the lock, or is blocked, makes no request by it. */
+static void **quiet;
+static void *sort_quietly(void *asked)
+{
+    size_t before = GC_get_total_bytes();
+    qsort(quiet, LONGEST, sizeof *quiet, by_key);
+    *(size_t *)asked = GC_get_total_bytes() - before;
+    return NULL;
+}
+static void no_requests(void *(*sorts)(void *(*)(void *), void *))
+{
+    uint64_t random = 1;
+    size_t asked = 1;
+    quiet = make(LONGEST, 1);
+    mix(quiet, LONGEST, 1, &random);
+    sorts(sort_quietly, &asked);
+    CHECK(asked == 0 && are_sorted(quiet, LONGEST, 1));
+    mix(quiet, LONGEST, 1, &random);
+    sort_quietly(&asked);
+    CHECK(asked >= LONGEST * sizeof *quiet && are_sorted(quiet, LONGEST, 1));
+}
+#endif
+
 static int by_number(const void *one, const void *other) { return *(const int *)one - *(const int *)other; }
 static void of_numbers(void)
 {
@@ -124,5 +148,9 @@ int main(void)
     }
     each_length();
     of_numbers();
+#ifndef OTHER
+    no_requests(GC_call_with_alloc_lock);
+    no_requests(GC_do_blocking);
+#endif
     return check_ends();
 }
