@@ -155,12 +155,16 @@ static bool is_awaited(const struct thread *one)
     return one != mpgc_self && one->state == RUNNING && !one->is_suspended && one->stop != turn;
 }
 
-// Of those that are late the kernel holds back each.
+// Whether the kernel holds back each of those that are late.
 static bool are_held_back(void)
 {
-    const struct thread *one = mpgc.threads;
-    while (one && (!is_awaited(one) || mpgc_is_held_back(one, SUSPEND))) one = one->next;
-    return !one;
+    unsigned late = 0;
+    for (const struct thread *one = mpgc.threads; one; one = one->next) {
+        if (!is_awaited(one)) continue;
+        if (!mpgc_is_held_back(one, SUSPEND)) return false;
+        late++;
+    }
+    return late > 0;
 }
 
 // By short waits: one that was about to end when it was told won't answer, and while the whole process is stopped, for however long, none can.
