@@ -202,7 +202,7 @@ static void let_others_go_on(void)
 static struct thread *first_behind(void)
 {
     struct thread *one = mpgc.threads;
-    while (one && !(one->stop == turn && one->stands && one->stands_behind && !one->is_suspended)) one = one->next;
+    while (one && !(one->stands_behind && one->stop == turn && one->stands && !one->is_suspended)) one = one->next;
     return one;
 }
 

@@ -447,6 +447,7 @@ static void note_reading(void)
 static void behind_calls(void)
 {
     void *volatile held[60];
+    void *volatile *written = GC_malloc(4096);
     GC_word end = GC_get_gc_no() + 200;
     CHECK(pthread_getcpuclockid(pthread_self(), &own_clock) == 0);
     others = GC_get_push_other_roots();
@@ -454,6 +455,7 @@ static void behind_calls(void)
     while (GC_get_gc_no() < end) {
         for (int k = 0; k < 60; k++) held[k] = GC_malloc(40);
         GC_call_with_alloc_lock(begin_between, NULL);
+        *written = held[0]; /* for which it needs the lock, where the page is closed */
         work_for(3000);
         is_between = 0;
     }

@@ -150,23 +150,24 @@ static void *says_that_it_goes(void *data)
     while (stage == 1) sched_yield();
     return data;
 }
-static void unregistered(void)
+static void unregistered(size_t bytes) /* of the blocks that come in the record's place, of which two sizes have their own words elsewhere */
 {
-    enum { BLOCKS = 300, BYTES = 256 };
-    static unsigned char *blocks[BLOCKS];
+    enum { BLOCKS = 300 };
+    unsigned char *blocks[BLOCKS];
     int others = 0;
     pthread_t thread;
     void *answer = NULL;
     pthread_create(&thread, NULL, says_that_it_goes, &stage);
     while (stage == 0) sched_yield();
     for (int k = 0; k < BLOCKS; k++) {
-        blocks[k] = malloc(BYTES);
+        blocks[k] = malloc(bytes);
         memset(blocks[k], 0, malloc_usable_size(blocks[k]));
     }
     stage = 2;
     pthread_join(thread, &answer);
     for (int k = 0; k < BLOCKS; k++)
         for (size_t i = 0; i < malloc_usable_size(blocks[k]); i++) others += blocks[k][i] != 0;
+    stage = 0;
     CHECK(others == 0 && answer == &stage);
 }
 
@@ -175,7 +176,8 @@ int main(void)
     alarm(300);
     GC_INIT();
     GC_allow_register_threads();
-    unregistered();
+    unregistered(256);
+    unregistered(200);
     destroyed_late();
     CHECK(status_of(first_is_destroyed_late) == 0);
     CHECK(status_of(leaves_nothing_behind) == 0);
