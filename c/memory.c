@@ -150,7 +150,13 @@ static uint32_t open_behind(uint32_t pages, uint64_t request_words, mpheap *heap
     return status == MPHEAP_NO_MEMORY && is_taken ? MPHEAP_RANGE_TAKEN : status;
 }
 
+/* Whether a heap may have these limits: one that may not is told so first, also where another heap is mapped. */
+static bool are_limits(uint32_t pages, uint64_t request_words) {
+    return pages >= 1 && pages <= MPHEAP_MOST_PAGES && request_words <= MPHEAP_MOST_REQUEST_WORDS;
+}
+
 uint32_t mpheap_open_mapped_with(uint32_t pages, uint64_t request_words, mpheap *heap) {
+    if (!are_limits(pages, request_words)) return MPHEAP_BAD_PAGES;
     if (atomic_load(&mapped) != 0) return MPHEAP_SECOND;
     /* Other parts of a small heap may ask for as many bytes as its words: so each such request is tried in turn. */
     for (uint32_t others = 0; others < 64; others++) {

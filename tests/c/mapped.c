@@ -35,6 +35,13 @@ static void a_second_one_says_so(void) {
     IS(mpheap_open_mapped(4, &heap), MPHEAP_OK);
     IS(mpheap_open_mapped(4, &second), MPHEAP_SECOND);
     IS(second.core == NULL, 1);
+    /* Limits that no heap has come first. */
+    IS(mpheap_open_mapped(0, &second), MPHEAP_BAD_PAGES);
+    IS(mpheap_open_mapped(MPHEAP_MAX_PAGES + 1, &second), MPHEAP_BAD_PAGES);
+    IS(mpheap_open_mapped_with(MPHEAP_MOST_PAGES + 1, 2, &second), MPHEAP_BAD_PAGES);
+    IS(mpheap_open_mapped_with(4, (uint64_t)MPHEAP_MOST_REQUEST_WORDS + 1, &second), MPHEAP_BAD_PAGES);
+    IS(mpheap_open_mapped_with(MPHEAP_MOST_PAGES, MPHEAP_MOST_REQUEST_WORDS, &second), MPHEAP_SECOND);
+    IS(second.core == NULL, 1);
     IS(mpheap_open(4, &second), MPHEAP_OK);
     mpheap_close(&second);
     mpheap_close(&heap);
