@@ -54,6 +54,7 @@ workloads_run_on_threads() {
     ends "with helpers" 0 "" "$answers" threads --pages 4 --helpers 8 a.workload <.
     ends "a bad line of a workload" 2 "bad line 3" "" threads --pages 4 --helpers 1 bad.workload <.
     ends "a workload that isn't there" 1 "read fault" "" threads --pages 4 --helpers 1 no.workload <.
+    ends "a history of no name" 1 "write fault" "$answers" threads --pages 4 --record '' a.workload <.
 }
 
 # bad WORDS..: neither the input nor a file is read.
@@ -134,12 +135,30 @@ wrong_words_are_told() {
     refuses "'0' is no number for '--helpers': 1 to 8, in decimal" threads a.workload --pages 4 --helpers=0
     refuses "'--record' lacks its file" threads --pages 4 a.workload --record
     refuses "'--record' lacks its file" threads --record --pages 4 a.workload
-    refuses "'--record' lacks its RUN: '' is none" threads --record= --pages 4 a.workload
     refuses "'stress' lacks '--steps'" stress --seed 1 --mutators 2
     refuses "'stress' takes no word 'x'" stress --seed 1 --mutators 2 --steps 4 x
     refuses "'18446744073709551616' is no number for '--seed': $seeds" stress --seed 18446744073709551616 --mutators 1 --steps 0
     refuses "'17' is no number for '--mutators': 1 to 16, in decimal" stress --seed 1 --mutators 17 --steps 0
     refuses "'100001' is no number for '--steps': 0 to 100000, in decimal" stress --seed 1 --mutators 1 --steps 100001
+}
+
+# is_no_file WORDS..: their FILE isn't there, to the wrapper, which calls no rt, and to the program.
+is_no_file() {
+    local status=0
+    PATH=$room/no_rt:$PATH "$top/mpheap" "$@" >out 2>err <. || status=$?
+    is "no file: $*" "1|mpheap: there is no file ''|read fault|" "$status|$(head -n 1 err)|$(tail -n 1 err)|$(cat out)"
+    ends "the program finds no file: $*" 1 "read fault" "" "$@" <.
+}
+
+files_of_no_name_are_not_there() {
+    is_no_file run --pages 4 ''
+    is_no_file threads '' --pages 4
+    is_no_file record --pages 4 ''
+    is_no_file replay --pages 4 ''
+    is_no_file draw --pages 4 ''
+    is_no_file draw --pages 4 --run ''
+    refuses "'0' is no number for '--pages': 1 to 4096, in decimal" run --pages 0 ''
+    refuses "'PREFIX' lacks its folder: '' is none" install ''
 }
 
 words_of_commands_on_files_are_told() {
@@ -205,6 +224,7 @@ printf '#!/bin/sh\necho "rt is called: $*" >&2\nexit 1\n' >no_rt/rt
 chmod +x no_rt/rt
 if is_built; then
     wrong_words_are_told
+    files_of_no_name_are_not_there
     words_of_commands_on_files_are_told
     ranges_are_told
     words_of_the_wrapper_are_told

@@ -50,7 +50,7 @@ run_build() {
 # run_program: what the words ask for, by the program and its FILE.
 run_program() {
     local words build
-    [[ -z $file ]] || look_at_file "$file"
+    [[ ${#operands[@]} = 0 ]] || look_at_file "$file"
     [[ -n $file ]] || ! reads_input "$command" || (: 3<&0) 2>/dev/null || bad_file "standard input is closed"
     program_words
     find_build

@@ -47,7 +47,8 @@ is_below_end() {
 look_at_value() {
     local name=${row_name[$1]} least most step
     case ${row_takes[$1]} in
-        file | folder) [[ -n $2 ]] || bad_words "'$name' lacks its ${row_value[$1]}: '' is none" ;;
+        file) ;; # (one of no name isn't there, as the program says of it)
+        folder) [[ -n $2 ]] || bad_words "'$name' lacks its folder: '' is none" ;;
         [0-9]*)
             read -r least most step <<<"${row_takes[$1]}"
             is_number "$2" "$least" "$most" || bad_words "'$2' is no number for '$name': $(range_of "$1")"
