@@ -300,7 +300,7 @@ impl Marker {
             return;
         }
         let (second, top) = (self.stack[self.len - 2].0, self.stack[self.len - 1].0);
-        if (second ^ base) < (top ^ base) {
+        if second.abs_diff(base) < top.abs_diff(base) {
             self.stack.swap(self.len - 1, self.len - 2);
         }
     }

@@ -19,7 +19,7 @@ impl Marker {
     }
 
     // The object with this base was read, and so many entries waited before, its own among them. Of those to which it led the second
-    // from the top is brought onto the top if it lies nearer: fewer bits of its address are others.
+    // from the top is brought onto the top if it lies nearer.
     #[inline]
     pub(crate) fn bring_nearer(&mut self, depth: usize, base: u64)
         requires some { 0 < depth }
@@ -32,7 +32,7 @@ impl Marker {
             return;
         }
         let (second, top) = (waiting[count - 2].base, waiting[count - 1].base);
-        if (second ^ base) < (top ^ base) {
+        if second.abs_diff(base) < top.abs_diff(base) {
             self.bring_second();
         }
     }
