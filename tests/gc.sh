@@ -12,7 +12,9 @@ case "$#:${1-}" in
 esac
 top=$(dirname "$(dirname "$(readlink -f "${BASH_SOURCE[0]}")")")
 room=$(mktemp -d)
-trap 'rm -rf "$room"' EXIT
+processors=$(nproc)
+running=() judges=() awaited=() statuses=() queue=()
+trap close EXIT
 trap 'exit 143' INT TERM HUP
 include=${MPHEAP_INCLUDE:-$top/include}
 passed=0
@@ -30,29 +32,96 @@ is() {
     fi
 }
 
+close() {
+    local k
+    for k in "${!running[@]}"; do [ -n "${statuses[k]-}" ] || kill "${running[k]}"; done
+    rm -rf "$room"
+}
+
 skip() { printf 'gc: skipped, for want of %s: %s\n' "$1" "$2"; }
 
-# counted WHAT WORDS..: a program that ends with its counts, or says nothing but a line, and answers 0.
-counted() {
-    local what=$1 said status
-    shift
-    said=$(timeout -k 10 1500 "$@" 2>&1)
-    status=$?
-    if [ $status = 0 ] && [[ $said =~ ([0-9]+)\ passed,\ 0\ failed$ ]]; then
+# each SAYING COMMAND ITEMS..: the command with each of these, as many at once as there are processors. It says nothing if all is well.
+each() {
+    local saying=$1 command=$2 item pids=() k
+    shift 2
+    for item in "$@"; do
+        k=${#pids[@]}
+        [ "$k" -lt "$processors" ] || wait "${pids[k - processors]}"
+        "$command" "$item" >"$room/each_$k" 2>&1 &
+        pids+=($!)
+    done
+    k=$((${#pids[@]} - processors))
+    wait "${pids[@]:$((k > 0 ? k : 0))}"
+    k=0
+    for item in "$@"; do
+        is "$item $saying" "" "$(head -n 5 "$room/each_$k")"
+        k=$((k + 1))
+    done
+}
+
+# counts WHAT STATUS SAID: of a program that ends with its counts, or says nothing but a line, and answers 0.
+counts() {
+    if [ "$2" = 0 ] && [[ $3 =~ ([0-9]+)\ passed,\ 0\ failed$ ]]; then
         passed=$((passed + BASH_REMATCH[1]))
     else
-        is "$what" 0 "$status: $(printf '%s\n' "$said" | tail -n 5)"
+        is "$1" 0 "$2: $(printf '%s\n' "$3" | tail -n 5)"
     fi
 }
 
-# shadow WHAT WORDS..: a run of the shadow, which answers 0.
-shadow() {
-    local what=$1 status
-    shift
-    timeout -k 10 1500 "$@" >"$room/said" 2>&1
-    status=$?
-    [ $status = 0 ] || status="$status: $(tail -n 3 "$room/said")"
-    is "$what" 0 "$status"
+# answers WHAT STATUS SAID: of one that answers 0.
+answers() {
+    local status=$2
+    [ "$2" = 0 ] || status="$2: $(printf '%s\n' "$3" | tail -n 3)"
+    is "$1" 0 "$status"
+}
+
+# run JUDGE WHAT WORDS..: such a program.
+run() {
+    local judge=$1 what=$2 said
+    shift 2
+    said=$(timeout -k 10 1500 "$@" 2>&1)
+    "$judge" "$what" $? "$said"
+}
+counted() { run counts "$@"; }
+shadow() { run answers "$@"; }
+
+# beside JUDGE WHAT WORDS..: such a program, beside what comes next, until `gather`: one that waits for most of its time.
+beside() {
+    judges+=("$1")
+    awaited+=("$2")
+    timeout -k 10 1500 "${@:3}" >"$room/said_by_${#running[@]}" 2>&1 &
+    running+=($!)
+}
+
+# ended NUMBERS..: of programs that were begun so: they have ended, and their statuses are known.
+ended() {
+    local k
+    for k in "$@"; do
+        [ -z "${statuses[k]-}" ] || continue
+        wait "${running[k]}"
+        statuses[k]=$?
+    done
+}
+
+# queued JUDGE WHAT WORDS..: the same of one that works on one thread, or on few. As many of these run at once as there are processors.
+working() {
+    local k count=0
+    for k in "${queue[@]}"; do ! kill -0 "${running[k]}" 2>"$room/said" || count=$((count + 1)); done
+    echo "$count"
+}
+queued() {
+    while [ "$(working)" -ge "$processors" ]; do sleep 0.05; done
+    queue+=("${#running[@]}")
+    beside "$@"
+}
+
+gather() {
+    local k
+    for k in "${!running[@]}"; do
+        ended "$k"
+        "${judges[k]}" "${awaited[k]}" "${statuses[k]}" "$(cat "$room/said_by_$k")"
+    done
+    running=() judges=() awaited=() statuses=() queue=()
 }
 
 build() { "$top/gc/build" "$@" >"$room/said" 2>&1 || is "gc/build $*" built "$(tail -n 5 "$room/said")"; }
@@ -69,43 +138,80 @@ if command -v clang >"$room/said"; then CC=clang build "$room/clang"; else skip 
 . "$top/tests/gc/parts/headers.sh"
 
 # Each function, each place of roots, and what stands round the barrier.
-for test in functions settings macros inline limits links frees uncollectable pacing leaks unmapped finalizers typed kinds asking without_memory roots barrier crowded mapped \
-    kernel copies sorting signals handlers moments process shadow threads world loading registering stopping turns goodbyes suspending faulting waiting leaving \
-    joining behind together collector marking stacks; do
-    "${c[@]}" "$top/tests/gc/$test.c" "-L$room" -lmpgc "-Wl,-rpath,$room" -pthread -o "$room/$test" 2>"$room/said"
-    is "$test is built" "" "$(cat "$room/said")"
+tests=(functions settings macros inline limits links frees uncollectable pacing leaks unmapped finalizers typed kinds asking
+    without_memory roots barrier crowded mapped kernel copies sorting signals handlers moments process shadow threads world loading
+    registering stopping turns goodbyes suspending faulting waiting leaving joining behind together collector marking stacks)
+build_test() { "${c[@]}" "$top/tests/gc/$1.c" "-L$room" -lmpgc "-Wl,-rpath,$room" -pthread -o "$room/$1"; }
+each "is built" build_test "${tests[@]}"
+
+# The layer over a core that checks what is owed.
+for file in tests/gc/checking_core c/lent; do
+    "${c[@]}" -fPIC "-I$include" -c "$top/$file.c" -o "$room/$(basename $file).o" 2>"$room/said"
+    is "$file, of a core that checks what is owed, is built" "" "$(cat "$room/said")"
 done
-counted functions "$room/functions"
-counted "functions, in small steps" env GC_ENABLE_INCREMENTAL=1 "$room/functions"
-counted settings "$room/settings"
-counted "settings, in small steps" env GC_ENABLE_INCREMENTAL=1 "$room/settings"
-counted macros "$room/macros"
-counted limits "$room/limits"
-counted links "$room/links"
-counted "links, in small steps" env GC_ENABLE_INCREMENTAL=1 "$room/links"
-counted frees "$room/frees"
-counted "frees, in small steps" env GC_ENABLE_INCREMENTAL=1 "$room/frees"
-counted "frees, beside the collector's thread" env GC_COLLECTOR_THREAD=1 "$room/frees"
-counted pacing "$room/pacing"
-counted "pacing, in small steps" env GC_ENABLE_INCREMENTAL=1 "$room/pacing"
-counted leaks "$room/leaks"
-for test in inline unmapped uncollectable finalizers typed kinds asking registering leaving waiting; do
-    counted "$test" "$room/$test"
-    counted "$test, in small steps" env INCREMENTAL=1 "$room/$test"
+ar rcs "$room/checking_core.a" "$room/checking_core.o" "$room/lent.o"
+MPHEAP_ARCHIVE=$room/checking_core.a build "$room/checking"
+
+# What waits for most of its time.
+beside counts stopping "$room/stopping"
+beside counts "stopping, over that core" env "LD_LIBRARY_PATH=$room/checking" "$room/stopping"
+
+# What works on one thread, or on few: the longest first.
+for test in moments mapped; do queued counts "$test" "$room/$test"; done
+for test in functions settings links frees pacing; do
+    queued counts "$test" "$room/$test"
+    queued counts "$test, in small steps" env GC_ENABLE_INCREMENTAL=1 "$room/$test"
 done
-counted roots "$room/roots"
-counted "roots, in small steps" env INCREMENTAL=1 "$room/roots"
-counted barrier "$room/barrier"
-for test in crowded mapped without_memory; do counted "$test" "$room/$test"; done
-for test in kernel copies sorting; do counted "$test" "$room/$test"; done
-counted "signals" "$room/signals"
+queued counts "frees, beside the collector's thread" env GC_COLLECTOR_THREAD=1 "$room/frees"
+for test in inline unmapped uncollectable finalizers typed kinds asking registering leaving waiting roots; do
+    queued counts "$test" "$room/$test"
+    queued counts "$test, in small steps" env INCREMENTAL=1 "$room/$test"
+done
+for test in macros limits leaks barrier crowded without_memory kernel copies signals joining; do
+    queued counts "$test" "$room/$test"
+done
 for setting in FULL GC_ENABLE_INCREMENTAL GC_COLLECTOR_THREAD; do
-    counted "handlers, $setting" env $setting=1 "$room/handlers"
+    queued counts "handlers, $setting" env $setting=1 "$room/handlers"
 done
-counted "moments" "$room/moments"
+for test in functions settings links uncollectable finalizers typed kinds asking registering roots barrier kernel; do
+    queued counts "$test, beside the collector's thread" env GC_COLLECTOR_THREAD=1 "$room/$test"
+done
 "${c[@]}" -shared -fPIC "$top/tests/gc/loaded.c" -o "$room/loaded.so" 2>"$room/said"
 is "an object to be loaded is built" "" "$(cat "$room/said")"
-counted "process" "$room/process" "$room/loaded.so"
+queued counts "process" "$room/process" "$room/loaded.so"
+"${c[@]}" -no-pie "$top/tests/gc/process.c" "-L$room" -lmpgc "-Wl,-rpath,$room" -o "$room/fixed" 2>"$room/said"
+queued counts "process, at fixed addresses" "$room/fixed" "$room/loaded.so"
+# The archive, and in a program that is linked statically.
+build_archived() { "${c[@]}" -DWITHOUT_SYSCALLS "$top/tests/gc/$1.c" "$room/libmpgc.a" -pthread -o "$room/archived_$1"; }
+tests=(barrier kernel signals)
+each "is built, of the archive" build_archived "${tests[@]}"
+for test in "${tests[@]}"; do queued counts "$test, of the archive" "$room/archived_$test"; done
+if echo 'int main(void) { return 0; }' | cc -static -x c - -o "$room/static" 2>"$room/said"; then
+    build_static() { "${c[@]}" -static "$top/tests/gc/$1.c" "$room/libmpgc.a" -pthread -o "$room/static_$1"; }
+    tests=(functions roots finalizers typed kinds asking joining)
+    each "is built, linked statically" build_static "${tests[@]}" threads
+    for test in "${tests[@]}"; do queued counts "$test, linked statically" "$room/static_$test"; done
+    queued answers "threads, linked statically" env INCREMENTAL=1 "$room/static_threads" 4 2
+else
+    skip libc.a "programs that are linked statically"
+fi
+if [ -e /usr/include/gc/gc_mark.h ]; then
+    build_bdw() { cc -std=c11 -O1 -w -DOTHER "$top/tests/gc/$1.c" -lgc -o "$room/$1_bdw"; }
+    tests=(functions settings macros inline links uncollectable pacing leaks unmapped finalizers typed kinds asking registering leaving stacks)
+    each "is built, over bdwgc" build_bdw "${tests[@]}"
+    for test in "${tests[@]}"; do queued counts "$test, over bdwgc" "$room/${test}_bdw"; done
+    cc -std=c11 -O1 -w -DOTHER -shared -fPIC "$top/tests/gc/plugged.c" -lgc -o "$room/plugged_bdw.so"
+else
+    skip libgc-dev "the functions, settings, links, finalizers, kinds and threads over bdwgc"
+fi
+# A million random operations, with a shadow of all.
+queued answers shadow env FULL=1 "$room/shadow" 1 1000000
+queued answers "shadow, in small steps" env INCREMENTAL=1 "$room/shadow" 2 1000000
+queued answers "shadow, beside the collector's thread" env GC_COLLECTOR_THREAD=1 "$room/shadow" 3 300000
+ended "${queue[@]}"
+
+# Threads that are stopped, load objects, end and move.
+counted sorting "$room/sorting"
 "${c[@]}" -shared -fPIC "$top/tests/gc/loaded_local.c" -o "$room/loaded_local.so" 2>"$room/said"
 is "an object with thread-local data is built" "" "$(cat "$room/said")"
 "${c[@]}" -DROOM=9000000 -shared -fPIC "$top/tests/gc/loaded_local.c" -o "$room/loaded_larger.so" 2>"$room/said"
@@ -128,41 +234,11 @@ done
     "${c[@]}" -shared -fPIC "$top/tests/gc/plugged.c" "-L$room" -lmpgc "-Wl,-rpath,$room" -o "$room/plugged.so" 2>"$room/said"
 is "a part that is linked with the library is built, and a program that isn't" "" "$(cat "$room/said")"
 counted "plugging" "$room/plugging" "$room/plugged.so"
-for test in stopping turns goodbyes suspending faulting; do counted "$test" "$room/$test"; done
+[ ! -e "$room/plugged_bdw.so" ] || counted "plugging, over bdwgc" "$room/plugging" "$room/plugged_bdw.so"
+for test in turns goodbyes suspending faulting; do counted "$test" "$room/$test"; done
 for setting in FULL GC_ENABLE_INCREMENTAL GC_COLLECTOR_THREAD; do
     counted "behind, $setting" env $setting=1 "$room/behind"
 done
-counted "joining" "$room/joining"
-"${c[@]}" -no-pie "$top/tests/gc/process.c" "-L$room" -lmpgc "-Wl,-rpath,$room" -o "$room/fixed" 2>"$room/said"
-counted "process, at fixed addresses" "$room/fixed" "$room/loaded.so"
-for test in barrier kernel signals; do
-    if "${c[@]}" -DWITHOUT_SYSCALLS "$top/tests/gc/$test.c" "$room/libmpgc.a" -pthread -o "$room/archived" 2>"$room/said"; then
-        counted "$test, of the archive" "$room/archived"
-    else
-        is "the archive is linked" yes "$(head -n 3 "$room/said")"
-    fi
-done
-# The archive in a program that is linked statically.
-if echo 'int main(void) { return 0; }' | cc -static -x c - -o "$room/static" 2>"$room/said"; then
-    for test in functions roots finalizers typed kinds asking joining threads; do
-        "${c[@]}" -static "$top/tests/gc/$test.c" "$room/libmpgc.a" -pthread -o "$room/static_$test" 2>"$room/said"
-        is "$test, linked statically, is built" "" "$(cat "$room/said")"
-        [ $test = threads ] || counted "$test, linked statically" "$room/static_$test"
-    done
-    shadow "threads, linked statically" env INCREMENTAL=1 "$room/static_threads" 4 2
-else
-    skip libc.a "programs that are linked statically"
-fi
-if [ -e /usr/include/gc/gc_mark.h ]; then
-    for test in functions settings macros inline links uncollectable pacing leaks unmapped finalizers typed kinds asking registering leaving stacks; do
-        cc -std=c11 -O1 -w -DOTHER "$top/tests/gc/$test.c" -lgc -o "$room/${test}_bdw"
-        counted "$test, over bdwgc" "$room/${test}_bdw"
-    done
-    cc -std=c11 -O1 -w -DOTHER -shared -fPIC "$top/tests/gc/plugged.c" -lgc -o "$room/plugged_bdw.so"
-    counted "plugging, over bdwgc" "$room/plugging" "$room/plugged_bdw.so"
-else
-    skip libgc-dev "the functions, settings, links, finalizers, kinds and threads over bdwgc"
-fi
 
 # Programs in C++.
 if command -v c++ >"$room/said"; then
@@ -182,18 +258,9 @@ fi
 
 # The collector's own thread: what it has to stand, and the tests above that have something to do for it.
 counted collector "$room/collector" 1
-for file in tests/gc/checking_core c/lent; do
-    "${c[@]}" -fPIC "-I$include" -c "$top/$file.c" -o "$room/$(basename $file).o" 2>"$room/said"
-    is "$file, of a core that checks what is owed, is built" "" "$(cat "$room/said")"
-done
-ar rcs "$room/checking_core.a" "$room/checking_core.o" "$room/lent.o"
-MPHEAP_ARCHIVE=$room/checking_core.a build "$room/checking"
 counted "collector, over a core that checks what is owed" env "LD_LIBRARY_PATH=$room/checking" "$room/collector" 1
-for test in stopping turns goodbyes suspending faulting; do
+for test in turns goodbyes suspending faulting; do
     counted "$test, over that core" env "LD_LIBRARY_PATH=$room/checking" "$room/$test"
-done
-for test in functions settings links uncollectable finalizers typed kinds asking registering roots barrier kernel; do
-    counted "$test, beside the collector's thread" env GC_COLLECTOR_THREAD=1 "$room/$test"
 done
 counted "world, beside the collector's thread" env GC_COLLECTOR_THREAD=1 "$room/world" "${locals[@]}"
 if command -v objdump >"$room/said"; then
@@ -225,11 +292,7 @@ for setting in FULL INCREMENTAL GC_COLLECTOR_THREAD; do
     counted "together, $setting" env $setting=1 "$room/together" 4 3
 done
 
-# A million random operations, with a shadow of all.
-shadow shadow env FULL=1 "$room/shadow" 1 1000000
-shadow "shadow, in small steps" env INCREMENTAL=1 "$room/shadow" 2 1000000
-shadow "shadow, beside the collector's thread" env GC_COLLECTOR_THREAD=1 "$room/shadow" 3 300000
-
+gather
 if [ -z "$quick" ]; then
     for part in races planted sanitized; do
         # shellcheck source=/dev/null

@@ -1,30 +1,27 @@
 # shellcheck shell=bash disable=SC2154 # (tests/gc.sh has the other names, and reads this)
 # Part of tests/gc.sh: bdwgc's headers, each by itself in C and in C++, and that they declare what bdwgc's own ones do.
 
-# header NAME WORDS..: it is compiled by these words without a warning.
+# header LINE: of a name and the words of a compiler, by which it is compiled without a warning.
 header() {
-    local name=$1
-    shift
-    printf '#include <%s>\nint main(void);\n' "$name" | "$@" "${warnings[@]}" "-I$top/include/mpgc" -fsyntax-only - 2>"$room/said"
-    is "$name by $*" "" "$(head -n 3 "$room/said")"
+    local words
+    read -ra words <<<"$1"
+    printf '#include <%s>\nint main(void);\n' "${words[0]}" | "${words[@]:1}" "${warnings[@]}" "-I$top/include/mpgc" -fsyntax-only -
 }
+headers=()
 for file in gc.h gc/gc.h gc/gc_version.h gc/gc_config_macros.h gc/gc_init.h gc/gc_pthread_redirects.h gc/gc_mark.h gc/gc_typed.h gc/gc_gcj.h \
     gc/gc_disclaim.h gc/gc_tiny_fl.h gc/gc_inline.h gc/javaxfc.h gc/leak_detector.h; do
-    for words in -std=c99 "-std=c11 -DGC_THREADS -DGC_DEBUG"; do
-        # shellcheck disable=SC2086
-        header "$file" cc -x c $words
-    done
+    for words in -std=c99 "-std=c11 -DGC_THREADS -DGC_DEBUG"; do headers+=("$file cc -x c $words"); done
 done
 if command -v c++ >"$room/said"; then
     for file in gc.h gc_cpp.h gc/gc_cpp.h gc/gc_allocator.h gc/gc_mark.h gc/gc_inline.h gc/javaxfc.h; do
         for words in -std=c++98 "-std=c++11 -DGC_THREADS -DGC_DEBUG -DGC_NAMESPACE" "-std=c++20 -DGC_NAME_CONFLICT -DGC_ATOMIC_UNCOLLECTABLE"; do
-            # shellcheck disable=SC2086
-            header "$file" c++ -x c++ $words
+            headers+=("$file c++ -x c++ $words")
         done
     done
 else
     skip c++ "the headers in C++"
 fi
+each "is compiled" header "${headers[@]}"
 
 # What they declare is there.
 printf '#define GC_THREADS\n' >"$room/all.c"

@@ -20,21 +20,22 @@ is "what is thread-local is found without the loader" "" "$(nm -u "$room/libmpgc
 # object.
 grep -oh '\bmpgc_[a-z_]*' "$top/gc/front.h" "$top/gc/names/asked.h" | sort -u >"$room/asked"
 grep -oh '\bmpgc_[a-z_]*' "$top"/gc/front.h "$top"/gc/names/*.h | sort -u >"$room/front"
-for file in "$top"/gc/names/*.c "$top"/gc/kernel/*.c; do
-    cc -std=c11 -O1 -fPIC -fvisibility=hidden -c "$file" -o "$room/reaching.o" 2>"$room/said"
-    is "$(basename "$file") is compiled without the core" "" "$(cat "$room/said")"
-    is "what $(basename "$file") reaches" "" \
-        "$(nm -u "$room/reaching.o" | awk '{print $2}' | grep '^mpgc\|^mpheap' | sort | comm -23 - "$room/front")"
+mkdir "$room/reaching"
+reach() { cc -std=c11 -O1 -fPIC -fvisibility=hidden -c "$1" -o "$room/reaching/$(basename "$1" .c).o"; }
+each "is compiled without the core" reach "$top"/gc/names/*.c "$top"/gc/kernel/*.c
+for file in "$room"/reaching/*.o; do
+    is "what $(basename "$file") reaches" "" "$(nm -u "$file" | awk '{print $2}' | grep '^mpgc\|^mpheap' | sort | comm -23 - "$room/front")"
 done
 # And the audited files rest on nothing of theirs but what asked.h declares, which does no more.
 is "what asked.h has besides declarations" "" "$(grep -vE '^(//.*|HIDDEN [^{}#]*;|struct figures \{|    (uint64_t|size_t|unsigned long|double) [a-z_, ]*; *(//.*)?|\};)?$' \
     "$top/gc/names/asked.h")"
 mkdir "$room/audited" "$room/others"
-for file in "$top"/gc/*.c "$top"/gc/names/*.c "$top"/gc/kernel/*.c; do
-    part=others
-    [ "$(dirname "$file")" != "$top/gc" ] || part=audited
-    cc -std=c11 -O1 -fPIC -fvisibility=hidden "-I$include" -c "$file" -o "$room/$part/$(basename "$file" .c).o"
-done
+compile() {
+    local part=others
+    [ "$(dirname "$1")" != "$top/gc" ] || part=audited
+    cc -std=c11 -O1 -fPIC -fvisibility=hidden "-I$include" -c "$1" -o "$room/$part/$(basename "$1" .c).o"
+}
+each "is compiled" compile "$top"/gc/*.c "$top"/gc/names/*.c "$top"/gc/kernel/*.c
 nm --defined-only "$room"/others/*.o | awk 'NF == 3 && $2 ~ /[TDBRC]/ {print $3}' | sort -u >"$room/theirs"
 # (linked.c means the C library's functions of threads, which libmpgc.a leaves alone.)
 is "what the audited files ask" \
