@@ -1,7 +1,7 @@
 // What the audited files of libmpgc know of each other. x86-64, Linux, the GNU C library. Trusted, and not proved.
 //
 // Below them stands the proved heap of mpheap_c, above them a C program that knows bdwgc's gc.h, and may do what it likes. The proofs hold
-// for the program as far as these files keep what mpheap.h asks of a caller. They alone could lose an object or break memory: 3,468 lines
+// for the program as far as these files keep what mpheap.h asks of a caller. They alone could lose an object or break memory: 3,532 lines
 // of code in this folder, without blank ones and comments. Why names/ and kernel/ can't is said in front.h. This is all that they owe, in
 // the order in which they are best read, and the head of each says by which lines it pays:
 //
@@ -148,6 +148,11 @@ HIDDEN void mpgc_unlock_slowly(void);
 HIDDEN void mpgc_become_threaded(void);
 HIDDEN void mpgc_lock_in_child(void);
 HIDDEN void mpgc_wake_another(void);
+struct loan { bool is_one; sigset_t old; };  // or the lock itself
+HIDDEN void mpgc_lock_to_write(struct loan *loan);
+HIDDEN void mpgc_unlock_to_write(const struct loan *loan);
+HIDDEN void mpgc_lend(void);
+HIDDEN void mpgc_end_loan(void);
 HIDDEN uint32_t mpgc_my_number(void);
 HIDDEN extern _Thread_local unsigned mpgc_lock_depth __attribute__((tls_model("initial-exec")));
 static inline void mpgc_lock(void)
@@ -165,8 +170,8 @@ static inline void mpgc_unlock(void)
         mpgc_unlock_slowly();
 }
 
-// world.c. No other thread runs between these two, but those that are blocked (and touch no object). The lock is held, and stop and start
-// may be called again. `mpgc_make_stoppable` lets this thread be stopped.
+// world.c. No other thread runs between these two, but those that are blocked (and touch no object). The lock is held and signals are
+// blocked, and stop and start may be called again. `mpgc_make_stoppable` lets this thread be stopped.
 HIDDEN void mpgc_stop_world(void);
 HIDDEN void mpgc_start_world(void);
 HIDDEN void mpgc_stop_to_collect(void);  // these two tell the program, which makes no request then

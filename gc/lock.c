@@ -11,6 +11,18 @@
 //
 // Nobody sleeps without being woken: who sleeps is counted before he marks the word, and who takes it marks it if any are counted.
 //
+// It is lent, while who has it waits to stop the world (world.c), to those that wait for it to write to a closed page, one at a
+// time. For the one that holds up the stop may be among them: he walks over the loaded objects, has their lock, and writes into the
+// heap there.
+//
+//   - Nothing is lost: it is lent between two pieces of a collection, under no call of the core, and nobody but who borrowed it
+//     touches what it guards until it is back. So the page is told and opened as before the piece, by one who had the lock then.
+//   - No order of locks makes a ring: who has borrowed it waits for nobody (the core and the kernel tell and open the page), with
+//     signals blocked, so that no handler of the program waits in his place. Who lends it waits for the lock of the loaded objects,
+//     and behind that for whoever has borrowed it. (A walk whose function makes a request still waits for the lock in earnest.)
+//   - Nobody sleeps through it: that it is lent, and borrowed, stands in the word. So each change keeps awake who is about to sleep,
+//     and it wakes those that do.
+//
 // Who was woken finds it taken again by a thread that takes it step after step: so that one gives way between two (mpgc_give_way). And whoever
 // gives it away waits until another has got it, or a moment has passed, once one says that he was woken in vain.
 // Counted under threads.
@@ -22,13 +34,17 @@
 #include <unistd.h>
 
 #define WAITED_FOR ((uint32_t)1 << 31)
+#define LENT ((uint32_t)1 << 30)
+#define BORROWED ((uint32_t)1 << 29)
+#define NUMBER (BORROWED - 1)  // the kernel's are lower
 enum { SPINS = 500, MOST_WAYS = 16, VAIN = 3 };  // looks: some tens of microseconds; and so often one is woken in vain without a word
 
 _Thread_local unsigned mpgc_lock_depth __attribute__((tls_model("initial-exec")));
-static _Atomic uint32_t word;  // the number of the thread that has it, or 0; and whether others wait
+static _Atomic uint32_t word;  // the number of the thread that has it, or 0; whether others wait, it is lent, and borrowed
 static _Thread_local uint32_t me __attribute__((tls_model("initial-exec")));
 static _Atomic uint32_t waiting;  // so many threads wait for it
 static _Atomic uint32_t sleeping; // so many of these sleep, or are about to
+static _Atomic uint32_t writing;  // so many of those that wait may borrow it
 static _Atomic uint32_t handed;   // so often one of these has got it
 static _Atomic uint32_t giving;   // so many threads sleep until the next one has
 static atomic_bool starves;       // one was woken in vain, and nobody has given way since
@@ -39,7 +55,7 @@ uint32_t mpgc_my_number(void)
     return me;
 }
 
-static bool is_mine(void) { return (word & ~WAITED_FOR) == mpgc_my_number(); }
+static bool is_mine(void) { return (word & NUMBER) == mpgc_my_number(); }
 
 bool mpgc_has_lock(void) { return mpgc_lock_depth > 0; }
 
@@ -61,13 +77,32 @@ static void sleep_on(uint32_t seen)
     sleeping--;
 }
 
+static void wake_all(void) { syscall(SYS_futex, &word, FUTEX_WAKE_PRIVATE, INT32_MAX, NULL, NULL, 0); }
+
+// Whether it was to be borrowed, and is. By a handler of the program this thread might wait for the lock then, which isn't its own.
+static bool borrow(struct loan *loan)
+{
+    uint32_t seen = word;
+    if (!loan || !(seen & LENT) || (seen & BORROWED)) return false;
+    mpgc_block_signals(&loan->old);
+    loan->is_one = change(seen, seen | BORROWED);
+    if (!loan->is_one) mpgc_restore_signals(&loan->old);
+    return loan->is_one;
+}
+
+static void give_back(const struct loan *loan)
+{
+    if (atomic_fetch_and(&word, ~BORROWED) & WAITED_FOR) wake_all();
+    mpgc_restore_signals(&loan->old);
+}
+
 // Who was woken looks at it for some time too: it is mostly held for less than a sleep takes, and who slept again at once would be woken by
 // each thread that gives it away.
-static void take_late(void)
+static void take_late(struct loan *loan)
 {
     for (unsigned woken = 0;; woken++) {
         for (int k = 0; k < SPINS; k++) {
-            if (take_if_free()) return;
+            if (take_if_free() || borrow(loan)) return;
             __builtin_ia32_pause();
         }
         if (woken >= VAIN) starves = true;
@@ -76,11 +111,14 @@ static void take_late(void)
     }
 }
 
-static void wait_for_it(void)
+static void wait_for_it(struct loan *loan)
 {
     waiting++;
-    take_late();
+    if (loan) writing++;
+    take_late(loan);
+    if (loan) writing--;
     waiting--;
+    if (loan && loan->is_one) return;
     handed++;
     if (giving > 0) syscall(SYS_futex, &handed, FUTEX_WAKE_PRIVATE, INT32_MAX, NULL, NULL, 0);
 }
@@ -106,25 +144,57 @@ void mpgc_give_way(void)
 }
 
 // Counted under threads.
-void mpgc_lock_slowly(void)
+static void take(struct loan *loan)
 {
     for (;;) {
-        if (!is_mine() && !change(0, me)) wait_for_it();
+        if (!is_mine() && !change(0, me)) wait_for_it(loan);
+        if (loan && loan->is_one) return;
         mpgc_lock_depth++;
         if (is_mine()) return;
         mpgc_lock_depth--;
     }
 }
 
+void mpgc_lock_slowly(void) { take(NULL); }
+
 void mpgc_unlock_slowly(void)
 {
     if (--mpgc_lock_depth > 0) return;
-    for (uint32_t seen = word; (seen & ~WAITED_FOR) == me; seen = word) {
+    for (uint32_t seen = word; (seen & NUMBER) == me; seen = word) {
         if (!change(seen, 0)) continue;
         if (seen & WAITED_FOR) syscall(SYS_futex, &word, FUTEX_WAKE_PRIVATE, 1, NULL, NULL, 0);
         if (starves && atomic_exchange(&starves, false)) (void)let_one_have_it();
         return;
     }
+}
+
+// What has to be told and opened for a write is done between these two: with the lock, or by a loan of it.
+void mpgc_lock_to_write(struct loan *loan)
+{
+    loan->is_one = false;
+    if (mpgc.is_threaded)
+        take(loan);
+    else
+        mpgc_lock();
+}
+void mpgc_unlock_to_write(const struct loan *loan)
+{
+    if (loan->is_one)
+        give_back(loan);
+    else
+        mpgc_unlock();
+}
+
+// This thread has it, is under no call of the core, and touches nothing that it guards until it is back.
+void mpgc_lend(void)
+{
+    word |= LENT;
+    if (writing > 0) wake_all();
+}
+void mpgc_end_loan(void)
+{
+    for (uint32_t seen = word; (seen & BORROWED) || ((seen & LENT) && !change(seen, seen & ~LENT)); seen = word)
+        if (seen & BORROWED) sleep_on(seen);
 }
 
 // Who was woken may be suspended before he has taken it: so another one is woken, once this thread gives it away.
@@ -145,6 +215,7 @@ void mpgc_lock_in_child(void)
     me = 0;
     waiting = 0;
     sleeping = 0;
+    writing = 0;
     giving = 0;
     if (mpgc.is_threaded) word = mpgc_my_number();
 }

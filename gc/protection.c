@@ -442,9 +442,10 @@ void mpgc_wrote(void)
     const char *frame = __builtin_frame_address(0);
     if (!mpgc_self || mpgc_self->changes_pins || !has_over(frame)) return;
     int kept = errno;
-    mpgc_lock();
+    struct loan loan;
+    mpgc_lock_to_write(&loan);
     while (has_over(frame)) drop_last_pin(mpgc_self);
-    mpgc_unlock();
+    mpgc_unlock_to_write(&loan);
     errno = kept;
 }
 
@@ -454,11 +455,12 @@ void mpgc_will_write(const void *from, size_t bytes)
     uintptr_t start = (uintptr_t)from, last = FIRST + MAX_PAGES * PAGE, end = bytes > last - start ? last : start + bytes;
     if (start >= last || end <= FIRST || end == start) return;
     if (start < FIRST) start = FIRST;
-    mpgc_lock();
+    struct loan loan;
+    mpgc_lock_to_write(&loan);
     size_t first = mpgc_page_of(start), after = mpgc_page_of(end - 1) + 1;
     if (after > mpgc.size) after = mpgc.size;
     for (size_t page = first; page < after; page++)
         if (mpgc.is_closed[page]) mpgc_let_write(page);
     if (mpgc_self && first < after) pin(first, after, __builtin_frame_address(0));
-    mpgc_unlock();
+    mpgc_unlock_to_write(&loan);
 }

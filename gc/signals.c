@@ -86,11 +86,12 @@ static void on_fault(int number, siginfo_t *info, void *context)
     int kept = errno;
     const char *was_under = mpgc_self ? mpgc_self->under : NULL;
     if (mpgc_self) mpgc_self->under = stack_under(context);
-    mpgc_lock();
+    struct loan loan;
+    mpgc_lock_to_write(&loan);
     mpgc_figures.faults++;
     bool is_of_program = !mpgc.is_closed[page] && !can_be_written(page);
     if (mpgc.is_closed[page]) mpgc_let_write(page);
-    mpgc_unlock();
+    mpgc_unlock_to_write(&loan);
     if (mpgc_self) mpgc_self->under = was_under;
     errno = kept;
     if (is_of_program) mpgc_pass_on(number, info, context);

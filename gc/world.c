@@ -13,7 +13,8 @@
 // signal is needed. A thread that is blocked (GC_do_blocking) has said where its stack begins, and touches nothing before it has the lock.
 //
 // Nothing between stop and start may take a lock of the C library, as malloc and stdio do: a stopped thread may have it. That of the
-// loaded objects (dl_iterate_phdr) is held when the world is stopped, so that no stopped thread has it.
+// loaded objects (dl_iterate_phdr) is held when the world is stopped, so that no stopped thread has it. Who has it until then may
+// need the layer's lock, to write into the heap: so this one is lent until then (lock.c).
 // Counted under threads.
 #include "layer.h"
 #include <errno.h>
@@ -233,6 +234,7 @@ static int stop_under_the_loader(struct dl_phdr_info *object, size_t size, void 
     (void)object;
     (void)size;
     (void)unused;
+    mpgc_end_loan();
     stop_where_they_may();
     return 1;
 }
@@ -240,10 +242,12 @@ static int stop_under_the_loader(struct dl_phdr_info *object, size_t size, void 
 void mpgc_stop_world(void)
 {
     if (stops++ > 0 || !mpgc.is_threaded) return;
-    if (!HOLDS_LOADER)
+    if (!HOLDS_LOADER) {
         stop_where_they_may();
-    else
-        dl_iterate_phdr(stop_under_the_loader, NULL);
+        return;
+    }
+    mpgc_lend();
+    dl_iterate_phdr(stop_under_the_loader, NULL);
 }
 
 void mpgc_start_world(void)
@@ -268,9 +272,12 @@ void mpgc_start_after_collecting(void)
 SHOWN void GC_stop_world_external(void);
 void GC_stop_world_external(void)
 {
+    sigset_t old;
     mpgc_enter();
     mpgc_lock();
+    mpgc_block_signals(&old);
     mpgc_stop_world();
+    mpgc_restore_signals(&old);
 }
 
 SHOWN void GC_start_world_external(void);

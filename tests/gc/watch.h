@@ -3,7 +3,9 @@
 #ifndef WATCH_H
 #define WATCH_H
 #include <signal.h>
+#include <stdio.h>
 #include <sys/types.h>
+#include <sys/wait.h>
 #include <time.h>
 #include <unistd.h>
 
@@ -45,5 +47,21 @@ static inline pid_t watch(int seconds)
     while (getppid() == parent && !hangs(&one, seconds)) continue;
     if (getppid() == parent) kill(parent, SIGKILL);
     _exit(0);
+}
+
+/* Runs the body in a child, which is ended if it hangs: also where its threads all block signals, so that no alarm would end it. Answers
+ * whether it answered 0. */
+static inline int ends_well(int (*body)(void), int seconds)
+{
+    enum { LOOKS = 200 };
+    static const struct timespec moment = { 0, 5000000 };
+    int status = -1, looks = 0;
+    fflush(stdout);
+    pid_t child = fork();
+    if (child == 0) _exit(body());
+    struct watched one = watched(child);
+    while (waitpid(child, &status, WNOHANG) == 0 && (looks++ < LOOKS ? nanosleep(&moment, NULL) <= 0 : !hangs(&one, seconds))) continue;
+    if (status == -1 && kill(child, SIGKILL) == 0) waitpid(child, NULL, 0);
+    return WIFEXITED(status) && WEXITSTATUS(status) == 0;
 }
 #endif
