@@ -250,6 +250,7 @@ static void on_goodbye(void *record)
         return;
     }
     sigset_t old;
+    mpgc_give_up_mutexes();
     forget(self, &old);
     mpgc_drop_keys();
     if (MOVES_SIGNALS_STACKS) mpgc_drop_signals_stack();

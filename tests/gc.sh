@@ -140,7 +140,7 @@ if command -v clang >"$room/said"; then CC=clang build "$room/clang"; else skip 
 # Each function, each place of roots, and what stands round the barrier.
 tests=(functions settings macros inline limits links frees uncollectable pacing leaks unmapped finalizers typed kinds asking
     without_memory roots barrier crowded mapped kernel copies sorting signals handlers moments process shadow threads world loading
-    registering stopping turns goodbyes suspending faulting waiting walking leaving joining behind together collector marking stacks)
+    registering stopping turns goodbyes suspending faulting waiting walking locks leaving joining behind together collector marking stacks)
 build_test() { "${c[@]}" "$top/tests/gc/$1.c" "-L$room" -lmpgc "-Wl,-rpath,$room" -pthread -o "$room/$1"; }
 each "is built" build_test "${tests[@]}"
 
@@ -155,6 +155,9 @@ MPHEAP_ARCHIVE=$room/checking_core.a build "$room/checking"
 # What waits for most of its time.
 beside counts stopping "$room/stopping"
 beside counts "stopping, over that core" env "LD_LIBRARY_PATH=$room/checking" "$room/stopping"
+for setting in FULL GC_ENABLE_INCREMENTAL GC_COLLECTOR_THREAD; do
+    beside counts "locks, $setting" env $setting=1 "$room/locks"
+done
 
 # What works on one thread, or on few: the longest first.
 for test in moments mapped; do queued counts "$test" "$room/$test"; done
