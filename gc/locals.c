@@ -120,9 +120,12 @@ UNSEEN int mpgc_set_own_key(pthread_key_t key, const void *value)
     return next(key, value);
 }
 
+// It is written down from the first word on that may lead to an object. A thread that isn't known any more, or not yet, is from then on: what
+// is made for it goes with its record.
 UNSEEN SHOWN int pthread_setspecific(pthread_key_t key, const void *value)
 {
-    if (value && !keys) {
+    if (mpgc_is_inside((uintptr_t)value) && !keys) {
+        if (!mpgc_self && mpgc.is_threaded) mpgc_enter();
         keys = made();
         if (!keys) return ENOMEM;
         if (mpgc_self && mpgc_self->is_late) mpgc_self->late_keys = keys;

@@ -186,12 +186,12 @@ queued counts "process" "$room/process" "$room/loaded.so"
 queued counts "process, at fixed addresses" "$room/fixed" "$room/loaded.so"
 # The archive, and in a program that is linked statically.
 build_archived() { "${c[@]}" -DWITHOUT_SYSCALLS "$top/tests/gc/$1.c" "$room/libmpgc.a" -pthread -o "$room/archived_$1"; }
-tests=(barrier kernel signals walking)
+tests=(barrier kernel signals walking sorting)
 each "is built, of the archive" build_archived "${tests[@]}"
 for test in "${tests[@]}"; do queued counts "$test, of the archive" "$room/archived_$test"; done
 if echo 'int main(void) { return 0; }' | cc -static -x c - -o "$room/static" 2>"$room/said"; then
     build_static() { "${c[@]}" -static "$top/tests/gc/$1.c" "$room/libmpgc.a" -pthread -o "$room/static_$1"; }
-    tests=(functions roots finalizers typed kinds asking joining)
+    tests=(functions roots finalizers typed kinds asking joining sorting)
     each "is built, linked statically" build_static "${tests[@]}" threads
     for test in "${tests[@]}"; do queued counts "$test, linked statically" "$room/static_$test"; done
     queued answers "threads, linked statically" env INCREMENTAL=1 "$room/static_threads" 4 2

@@ -140,6 +140,30 @@ static int leaves_nothing_behind(void)
     return resident() - before > MOST ? 2 : 0;
 }
 
+/* Nor does a key that is set to an object as the last that a thread does, in the fourth round of destructors, behind the library's own. */
+static pthread_key_t last_key;
+static void *object_of_keys;
+static void set_last_key(void *data) { pthread_setspecific(last_key, data); }
+static void *set_last(void *data)
+{
+    set_last_key(object_of_keys);
+    return data;
+}
+static int keys_leave_nothing_behind(void)
+{
+    enum { MANY = 3000, MOST = 1000 }; /* of each it was a page */
+    long before = 0;
+    object_of_keys = GC_malloc(16);
+    if (pthread_key_create(&last_key, set_last_key) != 0) return 1;
+    for (int k = 0; k < MANY; k++) {
+        pthread_t thread;
+        if (k == 100) before = resident();
+        if (pthread_create(&thread, NULL, set_last, NULL) != 0 || pthread_join(thread, NULL) != 0) return 1;
+        if (k % 16 == 0) GC_gcollect();
+    }
+    return resident() - before > MOST ? 2 : 0;
+}
+
 /* A thread that is known from the beginning says that it goes, and goes on for some time: its record is written no more. */
 static _Atomic int stage;
 static void *says_that_it_goes(void *data)
@@ -181,6 +205,7 @@ int main(void)
     destroyed_late();
     CHECK(status_of(first_is_destroyed_late) == 0);
     CHECK(status_of(leaves_nothing_behind) == 0);
+    CHECK(status_of(keys_leave_nothing_behind) == 0);
     CHECK(ends_in_time(last_is_destroyed_late));
     CHECK(ends_in_time(last_is_destroyed_late_beside_the_collector));
     return check_ends();

@@ -1,4 +1,4 @@
-/* Where malloc has no memory left: a thread isn't made, a key isn't set, a link isn't registered, and a typed object is answered by the program's
+/* Where malloc has no memory left: a thread isn't made, a key isn't set to an object, a link isn't registered, and a typed object is answered by the program's
  * function for memory that runs out; all of it is done when there is some again, and nothing is lost meanwhile. */
 #define _GNU_SOURCE
 #define GC_THREADS
@@ -49,10 +49,11 @@ static int sets_no_key(void)
 {
     pthread_key_t key;
     GC_INIT();
+    void *object = GC_malloc(16);
     if (pthread_key_create(&key, NULL) != 0 || !takes_all()) return 1;
-    if (pthread_setspecific(key, &key) != ENOMEM) return 2;
+    if (pthread_setspecific(key, object) != ENOMEM || pthread_setspecific(key, &key) != 0) return 2;
     free(spare);
-    return pthread_setspecific(key, &key) == 0 && pthread_getspecific(key) == &key ? 0 : 3;
+    return pthread_getspecific(key) == &key && pthread_setspecific(key, object) == 0 && pthread_getspecific(key) == object ? 0 : 3;
 }
 
 static int registers_no_link(void)

@@ -1,10 +1,15 @@
-// The C library's sorting, which moves elements through room that it asks malloc for: so while it writes them back a thread may be stopped that has
-// some of the program's pointers nowhere else. Where it may be, and words of the elements point into the heap, the room is an object of the heap,
-// and read with the elements. Only in libmpgc.so.
+// The C library's sorting, which moves elements through room that it asks malloc for: so while it writes them back a thread may be stopped
+// that has some of the program's pointers nowhere else. Where it may be, and words of the elements point into the heap, the room is an
+// object of the heap, and read with the elements.
 //
-// As with that of the C library equal elements stay in their order. What is behind each step: of a run that is merged all elements stand in the
-// array until all stand in the room, and then there until they are copied back.
-#include "next.h"
+// As with that of the C library equal elements stay in their order. What is behind each step: of a run that is merged all elements stand
+// in the array until all stand in the room, and then there until they are copied back.
+//
+// A program that is linked statically has these functions in place of the C library's: there the others are sorted here too, in room of
+// malloc, or, where it has none, element by element.
+#include "../front.h"
+#include <dlfcn.h>
+#include <stdatomic.h>
 #include <stdlib.h>
 #include <string.h>
 
@@ -55,14 +60,48 @@ static void *room_for(const void *elements, size_t count, size_t size)
     return GC_malloc(bytes);
 }
 
+// Without room each element goes down among those before it that are in order.
+static void swap(char *one, char *other, size_t size)
+{
+    for (size_t k = 0; k < size; k++) {
+        char kept = one[k];
+        one[k] = other[k];
+        other[k] = kept;
+    }
+}
+static void go_down(const struct sort *sort, char *first, char *at)
+{
+    for (; at > first && sort->compare(at - sort->size, at, sort->data) > 0; at -= sort->size) swap(at - sort->size, at, sort->size);
+}
+
+static void sort_here(struct sort *sort, char *elements, size_t count)
+{
+    size_t bytes;
+    sort->room = __builtin_mul_overflow(count, sort->size, &bytes) ? NULL : malloc(bytes);
+    if (sort->room) sort_run(sort, elements, count);
+    for (size_t k = 1; !sort->room && k < count; k++) go_down(sort, elements, elements + k * sort->size);
+    free(sort->room);
+}
+
+typedef void sorter(void *elements, size_t count, size_t size, __compar_d_fn_t compare, void *data);
+static sorter *next_sorter(void)
+{
+    static atomic_uintptr_t kept;
+    uintptr_t found = atomic_load_explicit(&kept, memory_order_relaxed);
+    if (!found) atomic_store_explicit(&kept, found = (uintptr_t)dlsym(RTLD_NEXT, "qsort_r"), memory_order_relaxed);
+    return (sorter *)found;
+}
+
 SHOWN void qsort_r(void *elements, size_t count, size_t size, __compar_d_fn_t compare, void *data)
 {
-    NEXT(void, qsort_r, (void *, size_t, size_t, __compar_d_fn_t, void *));
+    sorter *next = next_sorter();
     struct sort sort = { size, compare, data, room_for(elements, count, size) };
     if (sort.room)
         sort_run(&sort, elements, count);
-    else
+    else if (next)
         next(elements, count, size, compare, data);
+    else
+        sort_here(&sort, elements, count);
 }
 
 static int compare_two(const void *one, const void *other, void *compare) { return (*(__compar_fn_t *)compare)(one, other); }
