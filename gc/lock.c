@@ -193,8 +193,8 @@ void mpgc_lend(void)
 }
 void mpgc_end_loan(void)
 {
-    for (uint32_t seen = word; (seen & BORROWED) || ((seen & LENT) && !change(seen, seen & ~LENT)); seen = word)
-        if (seen & BORROWED) sleep_on(seen);
+    word &= ~LENT;
+    for (uint32_t seen = word; seen & BORROWED; seen = word) sleep_on(seen);
 }
 
 // Who was woken may be suspended before he has taken it: so another one is woken, once this thread gives it away.

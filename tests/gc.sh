@@ -194,6 +194,8 @@ if echo 'int main(void) { return 0; }' | cc -static -x c - -o "$room/static" 2>"
     tests=(functions roots finalizers typed kinds asking joining sorting)
     each "is built, linked statically" build_static "${tests[@]}" threads
     for test in "${tests[@]}"; do queued counts "$test, linked statically" "$room/static_$test"; done
+    "${c[@]}" -static -Wl,-u,__qsort_r "$top/tests/gc/sorting.c" "$room/libmpgc.a" -pthread -o "$room/twice" 2>"$room/said"
+    is "a program that has the C library's sorting too is built" "" "$(cat "$room/said")"
     queued answers "threads, linked statically" env INCREMENTAL=1 "$room/static_threads" 4 2
 else
     skip libc.a "programs that are linked statically"

@@ -6,12 +6,15 @@
 // in the array until all stand in the room, and then there until they are copied back.
 //
 // A program that is linked statically has these functions in place of the C library's: there the others are sorted here too, in room of
-// malloc, or, where it has none, element by element.
+// malloc, or, where it has none, element by element. They are weak, since such a program may have the C library's none the less, which come
+// with what sorts inside of it, as getaddrinfo does: then arrays are sorted by these.
 #include "../front.h"
 #include <dlfcn.h>
 #include <stdatomic.h>
 #include <stdlib.h>
 #include <string.h>
+
+#define WEAK __attribute__((weak))
 
 struct sort {
     size_t size;
@@ -92,7 +95,7 @@ static sorter *next_sorter(void)
     return (sorter *)found;
 }
 
-SHOWN void qsort_r(void *elements, size_t count, size_t size, __compar_d_fn_t compare, void *data)
+WEAK SHOWN void qsort_r(void *elements, size_t count, size_t size, __compar_d_fn_t compare, void *data)
 {
     sorter *next = next_sorter();
     struct sort sort = { size, compare, data, room_for(elements, count, size) };
@@ -106,4 +109,4 @@ SHOWN void qsort_r(void *elements, size_t count, size_t size, __compar_d_fn_t co
 
 static int compare_two(const void *one, const void *other, void *compare) { return (*(__compar_fn_t *)compare)(one, other); }
 
-SHOWN void qsort(void *elements, size_t count, size_t size, __compar_fn_t compare) { qsort_r(elements, count, size, compare_two, &compare); }
+WEAK SHOWN void qsort(void *elements, size_t count, size_t size, __compar_fn_t compare) { qsort_r(elements, count, size, compare_two, &compare); }
