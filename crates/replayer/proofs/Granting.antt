@@ -1,6 +1,6 @@
 -- How a run goes on, as a replayer follows it, where objects may lie anywhere.
 use Rattle.std.proofs.Common.{◌≡◌, ◌⊎◌, ℕ, ◌+◌, ◌%◌, ◌<◌, ◌≤◌, true, List, Bool, length, replicate, refl, sym, ap, ◌∙◌, subst, arith, inl, inr, ⊎_elim}
-use Rattle.std.specs.Prelude.{IfSome, Option, Some, None, Contains, slice_get, slice_set, slice_index}
+use Rattle.std.specs.Prelude.{IfSome, IfNone, Option, Some, None, Contains, slice_get, slice_set, slice_index}
 use Rattle.std.proofs.lemmas.Bool.{cases_lt}
 use Rattle.std.proofs.lemmas.Option.{same_Some, slice_get_within, slice_get-get_or}
 use Rattle.std.proofs.lemmas.List.{length-set, length-replicate, get_or-set_same, get_or-replicate, get_or_past}
@@ -29,8 +29,8 @@ use Rattle.replayer.specs.declared.hint.Hint.{Hint}
 use Rattle.replayer.specs.declared.hint.Hint.TheVariants.{Nothing, Place, Forgot}
 use Rattle.replayer.specs.ReplayerContents.{ReplayerContents, Follows}
 use Rattle.replayer.specs.Replays.{IsReplayed, IsNoReplay}
-use Rattle.replayer.specs.Anywhere.{IsNoRequest, LineAnywhere, NamesObject, IsReplayAnywhere, IsReplayedAnywhere, IsNoReplayAnywhere, ExpectsAnywhere}
-use Rattle.replayer.specs.Expecting.{Expects}
+use Rattle.replayer.specs.Anywhere.{IsNoRequest, LineAnywhere, NamesObject, IsReplayAnywhere, IsReplayedAnywhere, IsNoReplayAnywhere, ExpectsAnywhere, MayBeOpenAnywhere}
+use Rattle.replayer.specs.Expecting.{Expects, MayBeOpen}
 use Rattle.heap_spec.specs.Transcripts.{LineOf}
 use Rattle.replayer.proofs.Steps.{AreApartIn, same_number, follows_grant}
 
@@ -151,6 +151,11 @@ expects_ever r event reply free expects start run f = record {
 pub expects_if : (r : ReplayerContents) (event : Event) (found : Option Reply) → IsNoRequest event → IfSome found (λ reply. Expects r event reply) → IfSome found (λ reply. ExpectsAnywhere r event reply)
 expects_if r event None free expects = tt
 expects_if r event (Some reply) free expects = expects_ever r event reply free expects
+
+-- where none is told the reply may be open there too
+pub open_if : (marking : Bool) (event : Event) (found : Option Reply) → IfNone found (MayBeOpen marking event) → IfNone found (MayBeOpenAnywhere marking event)
+open_if marking event None may = λ free. may
+open_if marking event (Some reply) may = tt
 
 module _ (old : ReplayerContents) (small : old.number < word_end) (few : old.births < word_end) where
   module _ (slot into words : ℕ) (kind : Kind) where

@@ -1,5 +1,5 @@
 -- Runs of heaps that place objects anywhere, and when a replayer says yes to a line of one.
-use Rattle.std.specs.Prelude.{◌≡◌, ◌<◌, ℕ}
+use Rattle.std.specs.Prelude.{◌≡◌, ◌<◌, ℕ, Bool}
 use Rattle.words.specs.declared.class.Kind.{Kind}
 use Rattle.heap_spec.specs.declared.call.Call.TheVariants.{Alloc}
 use Rattle.heap_spec.specs.declared.event.Event.{Event}
@@ -14,6 +14,7 @@ use Rattle.plain_heap.specs.Anywhere.{Requests}
 use Rattle.plain_heap.specs.Answering.{IsBornOf}
 use Rattle.replayer.specs.declared.hint.Hint.{Hint}
 use Rattle.replayer.specs.declared.hint.Hint.TheVariants.{Nothing, Place, Forgot}
+use Rattle.replayer.specs.Expecting.{MayBeOpen}
 use Rattle.replayer.specs.ReplayerContents.{ReplayerContents, Follows}
 use Rattle.replayer.specs.Replays.{NamesBases, MayNameBases}
 
@@ -59,3 +60,7 @@ pub record IsTheReplyAnywhere (origin : ℕ) (start : Start) (run : Run) (event 
 -- Each run that the replayer follows goes on by the event with this reply, and with no other.
 abbrev pub ExpectsAnywhere : ReplayerContents → Event → Reply → Type 0
 ExpectsAnywhere r event reply = (start : Start) (run : Run) → Follows r start run → IsTheReplyAnywhere r.heap.origin start run event reply
+
+-- The reply to the event may be open where objects may lie anywhere: it is that of a request, or may be open as ever.
+abbrev pub MayBeOpenAnywhere : Bool → Event → Type 0
+MayBeOpenAnywhere marking event = IsNoRequest event → MayBeOpen marking event

@@ -1,7 +1,7 @@
 //! Runs of heaps that place objects anywhere. Only requests answer otherwise there.
-ghost use Rattle.std.specs.Prelude.{◌≡◌, ℕ, IfSome, IsTrue, false};
+ghost use Rattle.std.specs.Prelude.{◌≡◌, ℕ, IfSome, IfNone, IsTrue, false};
 ghost use Rattle.replayer.specs.declared.hint.Hint.{Hint as HintValue};
-ghost use Rattle.replayer.specs.Anywhere.{IsReplayedAnywhere, IsNoReplayAnywhere, ExpectsAnywhere};
+ghost use Rattle.replayer.specs.Anywhere.{IsReplayedAnywhere, IsNoReplayAnywhere, ExpectsAnywhere, MayBeOpenAnywhere};
 ghost use Rattle.replayer.specs.Requests.{asks};
 
 use crate::flags::{flag_place, renew};
@@ -96,10 +96,11 @@ impl Replayer {
         self.request_anywhere(&request, reply, hint, length)
     }
 
-    /// The reply that the event has here where objects may lie anywhere, if this is known to be the only one. Of a request none is
-    /// told, since it may be refused with Full at any time.
+    /// The reply that the event has here where objects may lie anywhere, which is the only one. Of a request none is told, since it
+    /// may be refused with Full at any time, and else none only where [`Replayer::reply_to`] tells none.
     pub fn reply_anywhere_to(&mut self, event: &Event) -> Option<Reply>
         ensures reply { IfSome result (λ reply. ExpectsAnywhere self.old event.now reply) }
+        ensures none { IfNone result (MayBeOpenAnywhere self.old.marking event.now) }
         ensures same { self.new ≡ self.old }
     {
         let Event::Mutator(_, call) = *event else {

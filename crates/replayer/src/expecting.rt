@@ -1,6 +1,6 @@
 //! The reply that a heap gives to an event, where only one is open.
-ghost use Rattle.std.specs.Prelude.{◌≡◌, IfSome};
-ghost use Rattle.replayer.specs.Expecting.{Expects};
+ghost use Rattle.std.specs.Prelude.{◌≡◌, IfSome, IfNone, true};
+ghost use Rattle.replayer.specs.Expecting.{Expects, MayBeOpen};
 
 use crate::replayer::Replayer;
 use heap_spec::{Call, Event, Reply};
@@ -50,7 +50,8 @@ impl Replayer {
 
     // The reply to the end of a cycle where none is marking.
     fn finish_reply(&self) -> Option<Reply>
-        ensures { IfSome result (λ reply. Expects self.now Event.Finish reply) }
+        ensures reply { IfSome result (λ reply. Expects self.now Event.Finish reply) }
+        ensures none { IfNone result (self.now.marking ≡ true) }
     {
         if self.is_marking() {
             return None;
@@ -82,6 +83,7 @@ impl Replayer {
     // The reply to an event, by its kind.
     fn reply_by_kind(&mut self, event: Event) -> Option<Reply>
         ensures reply { IfSome result (λ reply. Expects self.old event reply) }
+        ensures none { IfNone result (MayBeOpen self.old.marking event) }
         ensures same { self.new ≡ self.old }
     {
         match event {
@@ -97,10 +99,11 @@ impl Replayer {
         }
     }
 
-    /// The reply that the event has here, if this is known to be the only one. Of a collector's small steps none is told, and
-    /// none of the end of a cycle that is marking, whose reply is open.
+    /// The reply that the event has here, which is the only one. `None` only of a collector's small steps that answer a number, and
+    /// of the end of a cycle that is marking, whose reply is open.
     pub fn reply_to(&mut self, event: &Event) -> Option<Reply>
         ensures reply { IfSome result (λ reply. Expects self.old event.now reply) }
+        ensures none { IfNone result (MayBeOpen self.old.marking event.now) }
         ensures same { self.new ≡ self.old }
     {
         self.reply_by_kind(*event)
