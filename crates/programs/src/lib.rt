@@ -13,9 +13,11 @@
 mod ending;
 mod fault;
 mod options;
+mod output;
 mod program_words;
 
 pub use ending::{end, end_with_usage};
 pub use fault::Fault;
 pub use options::{bare_command, file_given, number_given, option, pages_given, words_read};
+pub use output::put_line;
 pub use program_words::own_words;

@@ -9,10 +9,10 @@ mod options;
 mod printing;
 
 use crate::options::read_words;
-use crate::printing::print_explained;
+use crate::printing::tell;
 use programs::Fault;
+use scripts::Std;
 use std::fs;
-use written_runs::explain;
 
 /// How the command is used, as it says it where its words are others.
 pub const USAGE: &str =
@@ -26,8 +26,10 @@ pub fn answer(rt: &HostRuntime, words: &[String]) -> Result<u8, Fault> {
         Ok(text) => text,
         Err(error) => return Err(Fault::of_read(&error)),
     };
-    match explain(rt.alloc(), asked.pages, asked.places, text.as_str(), true) {
-        Ok(said) => print_explained(rt, &asked, text.as_str(), &said),
-        Err(_) => Err(Fault::Memory),
-    }
+    tell(
+        &mut Std::new(rt.stdout()),
+        rt.alloc(),
+        &asked,
+        text.as_str(),
+    )
 }

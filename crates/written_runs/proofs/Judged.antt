@@ -1,5 +1,5 @@
 -- Runs that lines lead to.
-use Rattle.std.proofs.Common.{◌≡◌, ◌≢◌, get_or, ℕ, ◌+◌, ◌<◌, ◌≤◌, List, [], ◌∷◌, ◌++◌, length, refl, sym, ap, ◌∙◌, subst, arith, append_assoc, length-append, Bool, true, false}
+use Rattle.std.proofs.Common.{◌≡◌, ◌≢◌, get_or, ℕ, ◌+◌, ◌<◌, ◌≤◌, List, [], ◌∷◌, ◌++◌, length, refl, sym, ap, ◌∙◌, subst, arith, append_assoc, length-append, Bool, true, false, inl, inr, ⊎_elim}
 use Rattle.std.specs.Prelude.{Option, Some, None, cond, not}
 use Rattle.std.specs.Global.{Vec}
 use Rattle.std.proofs.lemmas.List.{append-nil}
@@ -10,17 +10,19 @@ use Rattle.scripts.specs.Reading.{IsPlainLine}
 use Rattle.heap_spec.specs.declared.reply.Reply.{Reply}
 use Rattle.heap_spec.specs.Runs.{Start, Run, opening_start, heap_after}
 use Rattle.replayer.specs.ReplayerContents.{ReplayerContents, Follows}
+use Rattle.plain_heap.specs.declared.keepers.Keeper.{Keeper}
 use Rattle.plain_heap.specs.declared.paths.PathStep.{PathStep}
 use Rattle.plain_heap.specs.declared.wrongs.Wrong.{Wrong}
 use Rattle.scripts.specs.Lines.{newline, lines_of}
 use Rattle.scripts.proofs.Texts.{lines_of-line, lines_of-last}
 use Rattle.written_runs.specs.declared.places.Places.{Places}
+use Rattle.written_runs.specs.declared.step.Step.{Step}
 use Rattle.written_runs.specs.declared.verdict.Verdict.TheVariants.{Legal, NoLines, Bad, Breaks}
 use Rattle.written_runs.specs.declared.verdict.Verdict.{Verdict}
-use Rattle.written_runs.specs.Finding.{Takes, IsToldAt, IsLineVerdict, IsLineExplained, IsLineTraced}
-use Rattle.written_runs.specs.Judging.{Leads, ends, on, IsBroken, HasFault, IsJudged, HadToAnswer, IsExplained, IsWayTo, IsTracedBack}
+use Rattle.written_runs.specs.Finding.{Takes, IsToldAt, IsLineVerdict, IsLineExplained, IsLineBlamed, IsLineTraced, TellsReply}
+use Rattle.written_runs.specs.Judging.{Leads, ends, on, IsBroken, HasFault, IsJudged, HadToAnswer, IsExplained, IsWrongLine, IsBlamed, IsWayTo, IsTracedBack}
 use Rattle.written_runs.specs.Ranges.{BeginsBy}
-use Rattle.written_runs.specs.Steps.{IsUnwritten, TakesOn}
+use Rattle.written_runs.specs.Steps.{IsOpen, IsReplyTold, IsUnwritten, TakesOn}
 use Rattle.written_runs.specs.Told.{is_comment, told_lines}
 
 -- one line more
@@ -128,16 +130,32 @@ module _ (places : Places) (pages : ℕ) (text rest behind line : List ℕ) (num
     named = s.named;
   })
 
+  told_here : (step : Step) (expected : Option Reply) → TellsReply places old step expected → IsReplyTold places (opening_start pages) u.run step expected
+  told_here step None tells =
+      ⊎_elim (λ only. inl (only (opening_start pages) u.run u.follows))
+      (λ may. inr (subst (λ marking. IsOpen places marking step.event) u.follows.phase may))
+      tells
+  told_here step (Some reply) tells = (tells.0, tells.1 (opening_start pages) u.run u.follows)
+
   pub explained : (verdict : Verdict) (expected : Option Reply) → IsLineVerdict places old (number + 1) line verdict → IsLineExplained places old line verdict expected → IsExplained places pages (lines_of text) verdict expected
-  explained verdict None is why = tt
-  explained (Legal count) (Some reply) is why = absurd why
-  explained NoLines (Some reply) is why = absurd why
-  explained (Bad n) (Some reply) is why = absurd why
-  explained (Breaks n rule) (Some reply) is why = fault (HadToAnswer places (opening_start pages) reply) n is.0 (record {
+  explained (Legal count) expected is why = why
+  explained NoLines expected is why = why
+  explained (Bad n) expected is why = why
+  explained (Breaks n rule) expected is why = fault (HadToAnswer places (opening_start pages) expected) n is.0 (record {
     step = why.step;
     is_written = why.is_written;
-    other = why.other;
-    expected = why.expected (opening_start pages) u.run u.follows;
+    tells = told_here why.step expected why.tells;
+  })
+
+  pub blamed : (verdict : Verdict) (wrong : Option Wrong) (keeper : Option Keeper) → IsLineVerdict places old (number + 1) line verdict → IsLineBlamed places old line verdict wrong keeper → IsBlamed places pages (lines_of text) verdict wrong keeper
+  blamed (Legal count) wrong keeper is has = has
+  blamed NoLines wrong keeper is has = has
+  blamed (Bad n) wrong keeper is has = has
+  blamed (Breaks n rule) wrong keeper is has = fault (IsWrongLine places (opening_start pages) wrong keeper) n is.0 (record {
+    step = has.step;
+    is_written = has.is_written;
+    tells = has.tells (opening_start pages) u.run u.follows;
+    why = has.why (opening_start pages) u.run u.follows;
   })
 
   pub traced : (why : Bool) (verdict : Verdict) (wrong : Option Wrong) (path : Option (Vec PathStep)) → IsLineVerdict places old (number + 1) line verdict → IsLineTraced old why verdict wrong path → IsTracedBack places pages (lines_of text) why verdict wrong path

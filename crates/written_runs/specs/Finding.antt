@@ -1,5 +1,5 @@
 -- What a replayer finds of a line, which is so in each run that it follows.
-use Rattle.std.specs.Prelude.{◌≡◌, ℕ, Bool, true, false, Option, Some, None, List}
+use Rattle.std.specs.Prelude.{◌≡◌, ◌⊎◌, ℕ, Bool, true, false, Option, Some, None, List}
 use Rattle.std.specs.Global.{Vec}
 use Rattle.heap_spec.specs.declared.event.Event.{Event}
 use Rattle.heap_spec.specs.declared.reply.Reply.{Reply}
@@ -17,7 +17,7 @@ use Rattle.written_runs.specs.declared.verdict.Verdict.{Verdict}
 use Rattle.written_runs.specs.declared.verdict.Verdict.TheVariants.{Legal, NoLines, Bad, Breaks}
 use Rattle.written_runs.specs.Judging.{IsWayTo, IsWhy}
 use Rattle.written_runs.specs.Rules.{rule_of}
-use Rattle.written_runs.specs.Steps.{GoesBy, IsOnlyReply, IsStepLine, IsUnwritten}
+use Rattle.written_runs.specs.Steps.{GoesBy, IsOnlyReply, IsOpen, IsStepLine, IsUnwritten}
 use Rattle.written_runs.specs.Told.{is_comment}
 
 -- From each run that the replayer followed a step goes on, to one that it follows.
@@ -31,6 +31,11 @@ IsNoStep places r step = (start : Start) (run next : Run) → Follows r start ru
 -- each run that the replayer follows goes on by the event with this reply alone
 abbrev pub IsOnlyReplyTo : Places → ReplayerContents → Event → Reply → Type 0
 IsOnlyReplyTo places r event reply = (start : Start) (run : Run) → Follows r start run → IsOnlyReply places start run event reply
+
+-- The reply that a step had to have in each run that a replayer follows. None is told only where this is the step's own, or may be open.
+abbrev pub TellsReply : Places → ReplayerContents → Step → Option Reply → Type 0
+TellsReply places r step None = IsOnlyReplyTo places r step.event step.reply ⊎ IsOpen places r.marking step.event
+TellsReply places r step (Some reply) = (reply ≡ step.reply → ⊥) × IsOnlyReplyTo places r step.event reply
 
 -- A line leads a replayer on: it is written of a step that goes on.
 pub record LeadsOn (places : Places) (old : ReplayerContents) (line : List ℕ) (new : ReplayerContents) : Type 0 where
@@ -55,12 +60,11 @@ pub record IsToldAt (n number : ℕ) (line : List ℕ) : Type 0 where
   pub is : n ≡ number
   pub told : is_comment line ≡ false
 
--- A line had to have this reply in each run that a replayer follows.
-pub record HasToAnswer (places : Places) (old : ReplayerContents) (reply : Reply) (line : List ℕ) : Type 0 where
+-- Of a line this reply is told, which it had to have in each run that a replayer follows, or none is.
+pub record HasToAnswer (places : Places) (old : ReplayerContents) (expected : Option Reply) (line : List ℕ) : Type 0 where
   pub step : Step
   pub is_written : IsStepLine places line step
-  pub other : reply ≡ step.reply → ⊥
-  pub expected : IsOnlyReplyTo places old step.event reply
+  pub tells : TellsReply places old step expected
 
 -- what a replayer finds of the line of this number, by which it doesn't go on
 abbrev pub IsLineVerdict : Places → ReplayerContents → ℕ → List ℕ → Verdict → Type 0
@@ -69,13 +73,12 @@ IsLineVerdict places old number line NoLines = ⊥
 IsLineVerdict places old number line (Bad n) = IsToldAt n number line × IsUnwritten places line
 IsLineVerdict places old number line (Breaks n rule) = IsToldAt n number line × Stops places old rule line
 
--- and which reply the line had to have, if one is told
+-- and which reply the line had to have
 abbrev pub IsLineExplained : Places → ReplayerContents → List ℕ → Verdict → Option Reply → Type 0
-IsLineExplained places old line verdict None = Unit {0}
-IsLineExplained places old line (Legal count) (Some reply) = ⊥
-IsLineExplained places old line NoLines (Some reply) = ⊥
-IsLineExplained places old line (Bad n) (Some reply) = ⊥
-IsLineExplained places old line (Breaks n rule) (Some reply) = HasToAnswer places old reply line
+IsLineExplained places old line (Legal count) expected = expected ≡ None
+IsLineExplained places old line NoLines expected = expected ≡ None
+IsLineExplained places old line (Bad n) expected = expected ≡ None
+IsLineExplained places old line (Breaks n rule) expected = HasToAnswer places old expected line
 
 -- what keeps the object in each run that a replayer follows, where it has to stay
 abbrev pub TellsWhy : ReplayerContents → Option Wrong → Option Keeper → Type 0

@@ -17,7 +17,7 @@ use Rattle.written_runs.specs.declared.rules.Rule.{Rule}
 use Rattle.written_runs.specs.declared.step.Step.{Step}
 use Rattle.written_runs.specs.declared.verdict.Verdict.{Verdict}
 use Rattle.written_runs.specs.declared.verdict.Verdict.TheVariants.{Legal, NoLines, Bad, Breaks}
-use Rattle.written_runs.specs.Steps.{GoesBy, IsOnlyReply, IsStepLine, IsUnwritten, TakesOn}
+use Rattle.written_runs.specs.Steps.{GoesBy, IsReplyTold, IsStepLine, IsUnwritten, TakesOn}
 use Rattle.written_runs.specs.Rules.{rule_of}
 use Rattle.written_runs.specs.Told.{is_comment, told_lines}
 
@@ -65,20 +65,18 @@ IsJudged places pages lines (Bad number) = HasFault places (λ run line. IsUnwri
 -- the line of this number breaks the run, by this rule
 IsJudged places pages lines (Breaks number rule) = HasFault places (IsBroken places (opening_start pages) rule) (opening_start pages) lines number
 
--- A line had to have this reply: it is written of an event and another one, and the run goes on by the event with this one alone.
-pub record HadToAnswer (places : Places) (start : Start) (reply : Reply) (run : Run) (line : List ℕ) : Type 0 where
+-- Of a line this reply is told, which it had to have, or none is.
+pub record HadToAnswer (places : Places) (start : Start) (expected : Option Reply) (run : Run) (line : List ℕ) : Type 0 where
   pub step : Step
   pub is_written : IsStepLine places line step
-  pub other : reply ≡ step.reply → ⊥
-  pub expected : IsOnlyReply places start run step.event reply
+  pub tells : IsReplyTold places start run step expected
 
--- which reply the line that breaks a run had to have, if one is told
+-- which reply the line that breaks a run had to have
 abbrev pub IsExplained : Places → ℕ → List (List ℕ) → Verdict → Option Reply → Type 0
-IsExplained places pages lines verdict None = Unit {0}
-IsExplained places pages lines (Legal count) (Some reply) = ⊥
-IsExplained places pages lines NoLines (Some reply) = ⊥
-IsExplained places pages lines (Bad number) (Some reply) = ⊥
-IsExplained places pages lines (Breaks number rule) (Some reply) = HasFault places (HadToAnswer places (opening_start pages) reply) (opening_start pages) lines number
+IsExplained places pages lines (Legal count) expected = expected ≡ None
+IsExplained places pages lines NoLines expected = expected ≡ None
+IsExplained places pages lines (Bad number) expected = expected ≡ None
+IsExplained places pages lines (Breaks number rule) expected = HasFault places (HadToAnswer places (opening_start pages) expected) (opening_start pages) lines number
 
 -- where an object has to stay this keeps it, and else nothing is told
 abbrev pub IsWhy : Heap → Option Wrong → Option Keeper → Type 0

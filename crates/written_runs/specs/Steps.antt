@@ -1,11 +1,11 @@
 -- How a run goes on by a line, by where its objects may lie.
-use Rattle.std.specs.Prelude.{List, ℕ}
+use Rattle.std.specs.Prelude.{◌≡◌, ◌⊎◌, List, ℕ, Bool, Option, Some, None}
 use Rattle.heap_spec.specs.declared.event.Event.{Event}
 use Rattle.heap_spec.specs.declared.reply.Reply.{Reply}
-use Rattle.heap_spec.specs.Runs.{Start, Run}
+use Rattle.heap_spec.specs.Runs.{Start, Run, is_marking}
 use Rattle.replayer.specs.Replays.{IsReplay}
-use Rattle.replayer.specs.Anywhere.{IsReplayAnywhere, IsTheReplyAnywhere}
-use Rattle.replayer.specs.Expecting.{IsTheReply}
+use Rattle.replayer.specs.Anywhere.{IsReplayAnywhere, IsTheReplyAnywhere, MayBeOpenAnywhere}
+use Rattle.replayer.specs.Expecting.{IsTheReply, MayBeOpen}
 use Rattle.written_runs.specs.declared.places.Places.{Places}
 use Rattle.written_runs.specs.declared.places.Places.TheVariants.{Classes, Any}
 use Rattle.written_runs.specs.declared.step.Step.{Step}
@@ -35,3 +35,14 @@ IsUnwritten places line = (step : Step) → IsStepLine places line step → ⊥
 abbrev pub IsOnlyReply : Places → Start → Run → Event → Reply → Type 0
 IsOnlyReply Classes start run event reply = IsTheReply start run event reply
 IsOnlyReply (Any from) start run event reply = IsTheReplyAnywhere from start run event reply
+
+-- the reply to the event may be open
+abbrev pub IsOpen : Places → Bool → Event → Type 0
+IsOpen Classes marking event = MayBeOpen marking event
+IsOpen (Any from) marking event = MayBeOpenAnywhere marking event
+
+-- The reply that a step had to have, in the place of its own, is the one by which the run goes on alone. None is told only where
+-- this is the step's own, or may be open.
+abbrev pub IsReplyTold : Places → Start → Run → Step → Option Reply → Type 0
+IsReplyTold places start run step None = IsOnlyReply places start run step.event step.reply ⊎ IsOpen places (is_marking start run) step.event
+IsReplyTold places start run step (Some reply) = (reply ≡ step.reply → ⊥) × IsOnlyReply places start run step.event reply

@@ -1,7 +1,8 @@
 //! What a replayer finds of a step.
-ghost use Rattle.std.specs.Prelude.{◌≡◌, IfOk, IfSome, IsTrue, false};
+ghost use Rattle.std.specs.Prelude.{◌≡◌, IfOk, IfSome, IfNone, IsTrue, false};
 ghost use Rattle.written_runs.specs.Ranges.{BeginsBy};
-ghost use Rattle.written_runs.specs.Finding.{IsNoStep, IsOnlyReplyTo, IsStepped, TellsWay, TellsWhy};
+ghost use Rattle.written_runs.specs.Finding.{IsNoStep, IsOnlyReplyTo, IsStepped, TellsReply, TellsWay, TellsWhy};
+ghost use Rattle.written_runs.specs.Steps.{IsOpen};
 
 use crate::places::Places;
 use crate::step::Step;
@@ -26,10 +27,11 @@ pub(crate) fn goes_on(replayer: &mut Replayer, places: Places, step: &Step) -> b
     }
 }
 
-// The one reply that an event has here, if it is known.
+// The one reply that an event has here. None where it may be open.
 fn only_reply(replayer: &mut Replayer, places: Places, event: &Event) -> Option<Reply>
     requires begins { BeginsBy places replayer.old }
     ensures reply { IfSome result (λ reply. IsOnlyReplyTo places replayer.old event.now reply) }
+    ensures none { IfNone result (IsOpen places replayer.old.marking event.now) }
     ensures same { replayer.new ≡ replayer.old }
 {
     match places {
@@ -38,11 +40,10 @@ fn only_reply(replayer: &mut Replayer, places: Places, event: &Event) -> Option<
     }
 }
 
-/// The reply that a step had to have, where it is known and another one than it has.
+/// The reply that a step had to have, where it is another one than it has. None where its own is the only one, or may be open.
 pub(crate) fn other_reply(replayer: &mut Replayer, places: Places, step: &Step) -> Option<Reply>
     requires begins { BeginsBy places replayer.old }
-    ensures other { IfSome result (λ expected. expected ≡ step.now.reply → ⊥) }
-    ensures expected { IfSome result (λ expected. IsOnlyReplyTo places replayer.old step.now.event expected) }
+    ensures tells { TellsReply places replayer.old step.now result }
     ensures same { replayer.new ≡ replayer.old }
 {
     let Some(expected) = only_reply(replayer, places, &step.event) else {

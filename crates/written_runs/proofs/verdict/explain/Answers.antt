@@ -1,5 +1,5 @@
 use Rattle.std.proofs.Common.{◌≡◌, length, arith, rules}
-use Rattle.written_runs.proofs.Judged.{starts, goes_on, ended, stopped, explained, traced}
+use Rattle.written_runs.proofs.Judged.{starts, goes_on, ended, stopped, explained, blamed, traced}
 use Rattle.written_runs.proofs.verdict.explain.Goals as goal
 
 pub loop-rest-init : goal.loop-rest-init
@@ -17,6 +17,11 @@ pub returns-in-Some-clause-expected : goal.returns-in-Some-clause-expected
 returns-in-Some-clause-expected c =
     let said = rw c.in-Some.is at c.in_ok-said.ensures.found in
     explained _ _ _ _ c.first_line.result.1.now _ _ _ _ c.loop-rest.invariant.1 c.first_line.ensures.lines _ _ said.verdict said.expected
+
+pub returns-in-Some-clause-wrong : goal.returns-in-Some-clause-wrong
+returns-in-Some-clause-wrong c =
+    let said = rw c.in-Some.is at c.in_ok-said.ensures.found in
+    blamed _ _ _ _ c.first_line.result.1.now _ _ _ _ c.loop-rest.invariant.1 c.first_line.ensures.lines _ _ _ said.verdict said.wrong
 
 pub returns-in-Some-clause-path : goal.returns-in-Some-clause-path
 returns-in-Some-clause-path c =
