@@ -15,6 +15,7 @@ use words::{Kind, PageNo};
 /// Objects that come and are written while a marker marks them.
 #[derive(Drop)]
 pub(crate) struct Heap {
+    alloc: Global,
     map: BlockMap,
     memory: Memory,
     marker: Marker,
@@ -46,6 +47,7 @@ impl Heap {
             return None;
         };
         Some(Heap {
+            alloc,
             map,
             memory,
             marker,
@@ -166,7 +168,6 @@ impl Heap {
     pub(crate) fn close_with<R: Threads + Wait + Sync, G: Gate>(
         &mut self,
         rt: &R,
-        alloc: Global,
         roots: &[u64],
         helpers: Helpers,
         gate: &G,
@@ -176,6 +177,6 @@ impl Heap {
             memory: &self.memory,
             roots,
         };
-        close_marks_with(rt, alloc, &mut self.marker, graph, helpers, gate);
+        close_marks_with(rt, self.alloc, &mut self.marker, graph, helpers, gate);
     }
 }

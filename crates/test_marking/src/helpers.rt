@@ -86,9 +86,7 @@ fn meets(
     let helpers = Helpers::new(number).ok_or("a number of helpers")?;
     let gate = Meeting::new(number);
     scene.heap.begin();
-    scene
-        .heap
-        .close_with(rt, scene.alloc, &roots, helpers, &gate);
+    scene.heap.close_with(rt, &roots, helpers, &gate);
     assert_eq!(rt; gate.missed.load(Ordering::SeqCst), 0, "{number} helpers");
     assert!(rt; gate.claims.load(Ordering::SeqCst) >= 207);
     assert_eq!(rt; scene.marks(), 207);
@@ -120,9 +118,7 @@ fn closes(
     let before = scene.marked()?;
     let wanted = scene.graph.closure(scene.alloc, before.as_slice(), roots)?;
     let helpers = Helpers::new(number).ok_or("a number of helpers")?;
-    scene
-        .heap
-        .close_with(rt, scene.alloc, roots, helpers, &Open);
+    scene.heap.close_with(rt, roots, helpers, &Open);
     scene.assert_marked(rt, wanted.as_slice());
     scene.assert_no_other_mark(rt);
     assert_eq!(rt; scene.heap.retrace(), None);

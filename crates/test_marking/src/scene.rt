@@ -47,16 +47,8 @@ impl Scene {
         Ok(found)
     }
 
-    /// Cuts a page and allocates its first cells.
-    pub(crate) fn fill(
-        &mut self,
-        rt: &impl Abort,
-        page: PageNo,
-        words: u64,
-        kind: Kind,
-        cells: u16,
-    ) -> Result<(), Fail> {
-        assert!(rt; self.heap.cut(page, words, kind), "page {page} is free");
+    // Allocates the first cells of a page that is cut.
+    fn fill(&mut self, page: PageNo, cells: u16) -> Result<(), Fail> {
         for _ in 0..cells {
             let _ = self.allocate(page)?;
         }
@@ -70,7 +62,8 @@ impl Scene {
         blocks: &[(PageNo, u64, Kind, u16)],
     ) -> Result<(), Fail> {
         for (page, words, kind, cells) in blocks {
-            self.fill(rt, *page, *words, *kind, *cells)?;
+            assert!(rt; self.heap.cut(*page, *words, *kind), "page {page} is free");
+            self.fill(*page, *cells)?;
         }
         Ok(())
     }

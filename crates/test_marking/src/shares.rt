@@ -141,9 +141,7 @@ pub(crate) fn close_by_two(
     let roots = roots_at(scene, places)?;
     let helpers = Helpers::new(2).ok_or("two helpers")?;
     let gate = Record::new();
-    scene
-        .heap
-        .close_with(rt, scene.alloc, &roots, helpers, &gate);
+    scene.heap.close_with(rt, &roots, helpers, &gate);
     gate.assert_made(rt, first, second);
     Ok(())
 }
@@ -244,9 +242,7 @@ fn claim_roots_first(
     let gate = Held {
         record: Record::new(),
     };
-    scene
-        .heap
-        .close_with(rt, scene.alloc, &roots, helpers, &gate);
+    scene.heap.close_with(rt, &roots, helpers, &gate);
     gate.record.assert_made(rt, 1, 4);
     assert_eq!(rt; scene.marks(), 7);
     Ok(())

@@ -33,7 +33,7 @@ fn lay_pairs(rt: &impl Abort, scene: &mut Scene, number: u16) -> Result<(), Fail
     for page in 0..number {
         let _large = scene.allocate_large(u32::from(page), 1, Kind::Normal)?;
     }
-    scene.fill(rt, u32::from(number), 2, Kind::PointerFree, number)?;
+    scene.lay(rt, &[(u32::from(number), 2, Kind::PointerFree, number)])?;
     for k in 0..usize::from(number) {
         scene.link(rt, &[(k, 0, k + usize::from(number))])?;
     }
@@ -73,9 +73,7 @@ fn close_by_two(
         second: AtomicU64::new(0),
     };
     scene.heap.begin();
-    scene
-        .heap
-        .close_with(rt, scene.alloc, &[root], helpers, &gate);
+    scene.heap.close_with(rt, &[root], helpers, &gate);
     assert_eq!(rt; scene.marks(), marks);
     Ok((
         gate.first.load(Ordering::SeqCst),
