@@ -2,13 +2,13 @@
 //! none did anything to a live object shows in the object.
 ghost use Rattle.std.specs.Prelude.{◌≡◌};
 
-use crate::serve::{reg, serve, serve_call};
+use crate::serve::{Actors, leave, reg, serve, serve_call};
 use final_pause::{Helpers, Open};
 use heap_core::Core;
 use heap_spec::answers::count;
 use heap_spec::{Call, Event, Reply};
 use history::{Naming, Opened};
-use shared::{Collector, Mutator, SharedHeap, open};
+use shared::{Mutator, SharedHeap, open};
 use std::alloc::Global;
 use std::marker::Brand;
 use std::process::Abort;
@@ -37,14 +37,13 @@ fn make<J: Naming, R: Threads + Wait + Sync>(
     rt: &R,
     alloc: Global,
     heap: &SharedHeap<J>,
-    me: &mut Mutator<J>,
-    collector: &mut Collector<J>,
+    actors: &mut Actors<J>,
     asked: Asked,
 ) -> Reply {
     match asked {
-        Asked::Alone(event) => serve(rt, heap, me, collector, event),
+        Asked::Alone(event) => serve(rt, heap, actors, event),
         Asked::WithHelpers(helpers) => {
-            count(heap.finish_with(rt, alloc, collector, helpers, &Open))
+            count(heap.finish_with(rt, alloc, &mut actors.collector, helpers, &Open))
         }
     }
 }
@@ -59,12 +58,8 @@ fn put<J: Naming>(rt: &impl Wait, heap: &SharedHeap<J>, me: &mut Mutator<J>) {
 }
 
 // The object is whole, and no other mutator came than those that were asked to.
-fn is_untouched<J: Naming>(
-    rt: &impl Wait,
-    heap: &SharedHeap<J>,
-    me: &mut Mutator<J>,
-    collector: &mut Collector<J>,
-) -> bool {
+fn is_untouched<J: Naming>(rt: &impl Wait, heap: &SharedHeap<J>, actors: &mut Actors<J>) -> bool {
+    let Actors { me, collector } = actors;
     let size = serve_call(rt, heap, me, Call::Size(reg(1)));
     let first = serve_call(rt, heap, me, Call::Load(reg(9), reg(1), 0));
     let second = serve_call(rt, heap, me, Call::Load(reg(9), reg(1), 1));
@@ -79,13 +74,12 @@ fn first_wrong<J: Naming, R: Threads + Wait + Sync>(
     rt: &R,
     alloc: Global,
     heap: &SharedHeap<J>,
-    me: &mut Mutator<J>,
-    collector: &mut Collector<J>,
+    actors: &mut Actors<J>,
     calls: &[Asked],
 ) -> Option<usize> {
     for i in 0..calls.len() {
-        let reply = make(rt, alloc, heap, me, collector, calls[i]);
-        if matches!(reply, Reply::Refused(_)) || !is_untouched(rt, heap, me, collector) {
+        let reply = make(rt, alloc, heap, actors, calls[i]);
+        if matches!(reply, Reply::Refused(_)) || !is_untouched(rt, heap, actors) {
             return Some(i);
         }
     }
@@ -100,13 +94,14 @@ fn check<J: Naming, R: Threads + Wait + Abort + Sync>(
 )
     requires { (opened.table ≡ J.table) × (opened.origin ≡ J.origin) }
 {
-    let (heap, mut collector) = SharedHeap::<J>::named(opened);
+    let (heap, collector) = SharedHeap::<J>::named(opened);
     let gone = heap.attach(rt).ok().expect(rt, "a slot");
     heap.detach(rt, gone);
     let mut me = heap.attach(rt).ok().expect(rt, "a slot");
     put(rt, &heap, &mut me);
-    let wrong = first_wrong(rt, alloc, &heap, &mut me, &mut collector, calls);
-    heap.detach(rt, me);
+    let mut actors = Actors { me, collector };
+    let wrong = first_wrong(rt, alloc, &heap, &mut actors, calls);
+    leave(rt, &heap, actors);
     assert_eq!(rt; wrong, None);
 }
 

@@ -1,7 +1,7 @@
 //! Cycles that end with helpers give the replies of those that end without.
 ghost use Rattle.std.specs.Prelude.{◌≡◌};
 
-use crate::serve::{reg, serve_call};
+use crate::serve::{Actors, leave, reg, serve_call};
 use final_pause::{Helpers, Open};
 use heap_core::Core;
 use heap_core::quiet::{Mark, Roots};
@@ -94,10 +94,10 @@ fn end_two<J: Naming, R: Threads + Wait + Sync>(
     rt: &R,
     alloc: Global,
     heap: &SharedHeap<J>,
-    me: &mut Mutator<J>,
-    collector: &mut Collector<J>,
+    actors: &mut Actors<J>,
     helpers: &Option<Helpers>,
 ) -> Outcome {
+    let Actors { me, collector } = actors;
     let early = end(rt, alloc, heap, collector, helpers);
     push(rt, heap, me, 0, FIRST);
     begin(rt, heap, collector);
@@ -126,10 +126,11 @@ fn end_cycles<J: Naming, R: Threads + Wait + Abort + Sync>(
 ) -> Outcome
     requires { (opened.table ≡ J.table) × (opened.origin ≡ J.origin) }
 {
-    let (heap, mut collector) = SharedHeap::<J>::named(opened);
-    let mut me = heap.attach(rt).ok().expect(rt, "a slot");
-    let outcome = end_two(rt, alloc, &heap, &mut me, &mut collector, &helpers);
-    heap.detach(rt, me);
+    let (heap, collector) = SharedHeap::<J>::named(opened);
+    let me = heap.attach(rt).ok().expect(rt, "a slot");
+    let mut actors = Actors { me, collector };
+    let outcome = end_two(rt, alloc, &heap, &mut actors, &helpers);
+    leave(rt, &heap, actors);
     outcome
 }
 

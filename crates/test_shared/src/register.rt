@@ -31,13 +31,19 @@ fn additions(alloc: Global, count: usize) -> Result<Lines, AllocError>
     Ok(Lines { calls, replies })
 }
 
-// Of two mutators.
-fn twice(alloc: Global, count: usize) -> Result<(Lines, Lines), AllocError>
-    ensures { IfOk result (λ l. AreReady l.0.calls.items l.0.replies.items × AreReady l.1.calls.items l.1.replies.items) }
+// Those of two mutators.
+#[derive(Drop)]
+struct Pair {
+    a: Lines,
+    b: Lines,
+}
+
+fn twice(alloc: Global, count: usize) -> Result<Pair, AllocError>
+    ensures { IfOk result (λ l. AreReady l.a.calls.items l.a.replies.items × AreReady l.b.calls.items l.b.replies.items) }
 {
-    let first = additions(alloc, count)?;
-    let second = additions(alloc, count)?;
-    Ok((first, second))
+    let a = additions(alloc, count)?;
+    let b = additions(alloc, count)?;
+    Ok(Pair { a, b })
 }
 
 // The numbers that the additions found, each counted once, in the mutator's order.
@@ -83,19 +89,19 @@ fn leave_all<J: Naming>(rt: &impl Wait, shared: &SharedRegister<J>, jobs: [Job<J
 fn add_in_threads<J: Naming + Send + Sync, R: Threads + Wait + Abort + Sync>(
     rt: &R,
     opened: Opened<Register>,
-    a: Lines,
-    b: Lines,
-    c: Lines,
-    d: Lines,
+    first: Pair,
+    second: Pair,
     found: &mut [bool],
 ) -> u64
     requires table { (opened.table ≡ J.table) × (opened.origin ≡ J.origin) }
-    requires a { AreReady a.calls.items a.replies.items }
-    requires b { AreReady b.calls.items b.replies.items }
-    requires c { AreReady c.calls.items c.replies.items }
-    requires d { AreReady d.calls.items d.replies.items }
+    requires a { AreReady first.a.calls.items first.a.replies.items }
+    requires b { AreReady first.b.calls.items first.b.replies.items }
+    requires c { AreReady second.a.calls.items second.a.replies.items }
+    requires d { AreReady second.b.calls.items second.b.replies.items }
 {
     let (shared, mut collector) = SharedRegister::<J>::new(opened);
+    let Pair { a, b } = first;
+    let Pair { a: c, b: d } = second;
     let mut jobs = [
         job(rt, &shared, a),
         job(rt, &shared, b),
@@ -118,11 +124,11 @@ fn add_in_threads<J: Naming + Send + Sync, R: Threads + Wait + Abort + Sync>(
 #[test]
 fn threads_leave_one_history(rt: HostRuntime) -> Result<(), Fail> {
     let alloc = rt.alloc();
-    let (a, b) = twice(alloc, CALLS)?;
-    let (c, d) = twice(alloc, CALLS)?;
+    let first = twice(alloc, CALLS)?;
+    let second = twice(alloc, CALLS)?;
     let mut found = vec![in alloc; false; 4 * CALLS]?;
     let opened = open(alloc, 0)?;
-    let sum = add_in_threads::<Brand, _>(&rt, opened, a, b, c, d, found.as_mut_slice());
+    let sum = add_in_threads::<Brand, _>(&rt, opened, first, second, found.as_mut_slice());
     assert_eq!(rt; sum, 40_000);
     assert!(rt; found.iter().all(|&there| there));
     Ok(())

@@ -2,11 +2,11 @@
 //! `retrace_after_store`, `sweep_two_blocks` and `nothing_is_set`.
 ghost use Rattle.std.specs.Prelude.{◌≡◌};
 
-use crate::serve::{reg, serve};
+use crate::serve::{Actors, leave, reg, serve};
 use heap_core::Core;
 use heap_spec::{Call, Event, Reply};
 use history::{Naming, Opened};
-use shared::{Collector, Mutator, SharedHeap, open};
+use shared::{SharedHeap, open};
 use std::marker::Brand;
 use std::process::Abort;
 use std::sync::Wait;
@@ -52,13 +52,12 @@ fn word(word: u64) -> Wanted {
 fn first_wrong<J: Naming>(
     rt: &impl Wait,
     heap: &SharedHeap<J>,
-    me: &mut Mutator<J>,
-    collector: &mut Collector<J>,
+    actors: &mut Actors<J>,
     row: &[(Event, Wanted)],
 ) -> Option<usize> {
     for i in 0..row.len() {
         let (event, wanted) = row[i];
-        if !wanted.fits(serve(rt, heap, me, collector, event)) {
+        if !wanted.fits(serve(rt, heap, actors, event)) {
             return Some(i);
         }
     }
@@ -69,10 +68,11 @@ fn first_wrong<J: Naming>(
 fn check<J: Naming, R: Wait + Abort>(rt: &R, opened: Opened<Core>, row: &[(Event, Wanted)])
     requires { (opened.table ≡ J.table) × (opened.origin ≡ J.origin) }
 {
-    let (heap, mut collector) = SharedHeap::<J>::named(opened);
-    let mut me = heap.attach(rt).ok().expect(rt, "a slot");
-    let wrong = first_wrong(rt, &heap, &mut me, &mut collector, row);
-    heap.detach(rt, me);
+    let (heap, collector) = SharedHeap::<J>::named(opened);
+    let me = heap.attach(rt).ok().expect(rt, "a slot");
+    let mut actors = Actors { me, collector };
+    let wrong = first_wrong(rt, &heap, &mut actors, row);
+    leave(rt, &heap, actors);
     assert_eq!(rt; wrong, None);
 }
 

@@ -9,6 +9,18 @@ use std::sync::Wait;
 use words::limits::REGISTERS;
 use words::{Refusal, Reg};
 
+/// A heap's one mutator, and its collector.
+pub struct Actors<J: Naming> {
+    pub me: Mutator<J>,
+    pub collector: Collector<J>,
+}
+
+/// Both leave: the mutator is detached.
+pub fn leave<J: Naming>(rt: &impl Wait, heap: &SharedHeap<J>, actors: Actors<J>) {
+    let Actors { me, collector: _ } = actors;
+    heap.detach(rt, me);
+}
+
 /// The register of this number, counted round.
 pub fn reg(number: u8) -> Reg {
     let Some(reg) = Reg::new(number % REGISTERS) else {
@@ -50,10 +62,11 @@ pub fn serve_call<J: Naming>(
 pub fn serve<J: Naming>(
     rt: &impl Wait,
     heap: &SharedHeap<J>,
-    me: &mut Mutator<J>,
-    collector: &mut Collector<J>,
+    actors: &mut Actors<J>,
     event: Event,
 ) -> Reply {
+    let me = &mut actors.me;
+    let collector = &mut actors.collector;
     match event {
         Event::Attach => Reply::Slot(me.slot()),
         Event::Mutator(_, call) => serve_call(rt, heap, me, call),
