@@ -79,11 +79,13 @@ static void sleep_on(uint32_t seen)
 
 static void wake_all(void) { syscall(SYS_futex, &word, FUTEX_WAKE_PRIVATE, INT32_MAX, NULL, NULL, 0); }
 
+static bool is_offered(const struct loan *loan, uint32_t seen) { return loan && (seen & LENT) && !(seen & BORROWED); }
+
 // Whether it was to be borrowed, and is. By a handler of the program this thread might wait for the lock then, which isn't its own.
 static bool borrow(struct loan *loan)
 {
     uint32_t seen = word;
-    if (!loan || !(seen & LENT) || (seen & BORROWED)) return false;
+    if (!is_offered(loan, seen)) return false;
     mpgc_block_signals(&loan->old);
     loan->is_one = change(seen, seen | BORROWED);
     if (!loan->is_one) mpgc_restore_signals(&loan->old);
@@ -100,14 +102,15 @@ static void give_back(const struct loan *loan)
 // each thread that gives it away.
 static void take_late(struct loan *loan)
 {
-    for (unsigned woken = 0;; woken++) {
+    for (unsigned woken = 0;;) {
         for (int k = 0; k < SPINS; k++) {
             if (take_if_free() || borrow(loan)) return;
             __builtin_ia32_pause();
         }
         if (woken >= VAIN) starves = true;
         uint32_t seen = word;
-        if (seen != 0) sleep_on(seen);
+        if (seen != 0 && !is_offered(loan, seen)) sleep_on(seen);
+        if (!((word ^ seen) & (LENT | BORROWED))) woken++;  // or the loan alone kept it awake
     }
 }
 
