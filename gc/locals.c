@@ -120,8 +120,8 @@ UNSEEN int mpgc_set_own_key(pthread_key_t key, const void *value)
     return next(key, value);
 }
 
-// It is written down from the first word on that may lead to an object. A thread that isn't known any more, or not yet, is from then on: what
-// is made for it goes with its record.
+// It is written down from the first word on that may lead to an object. A thread that isn't known any more, or not yet, is from then
+// on: what is made for it goes with its record.
 UNSEEN SHOWN int pthread_setspecific(pthread_key_t key, const void *value)
 {
     if (mpgc_is_inside((uintptr_t)value) && !keys) {

@@ -202,7 +202,8 @@ else
 fi
 if [ -e /usr/include/gc/gc_mark.h ]; then
     build_bdw() { cc -std=c11 -O1 -w -DOTHER "$top/tests/gc/$1.c" -lgc -o "$room/$1_bdw"; }
-    tests=(functions settings macros inline links uncollectable pacing leaks unmapped finalizers typed kinds asking registering leaving stacks)
+    tests=(functions settings macros inline links uncollectable pacing leaks unmapped finalizers typed kinds asking registering leaving
+        stacks)
     each "is built, over bdwgc" build_bdw "${tests[@]}"
     for test in "${tests[@]}"; do queued counts "$test, over bdwgc" "$room/${test}_bdw"; done
     cc -std=c11 -O1 -w -DOTHER -shared -fPIC "$top/tests/gc/plugged.c" -lgc -o "$room/plugged_bdw.so"

@@ -1,5 +1,5 @@
-/* Where malloc has no memory left: a thread isn't made, a key isn't set to an object, a link isn't registered, and a typed object is answered by the program's
- * function for memory that runs out; all of it is done when there is some again, and nothing is lost meanwhile. */
+/* Where malloc has no memory left: a thread isn't made, a key isn't set to an object, a link isn't registered, and a typed object is
+ * answered by the program's function for memory that runs out; all of it is done when there is some again, and nothing is lost meanwhile. */
 #define _GNU_SOURCE
 #define GC_THREADS
 #include <errno.h>
