@@ -33,6 +33,7 @@ pub use lines::Lines;
 pub use random::write_stress;
 pub use replies::{Replies, print_replies};
 pub use serving::run_workload;
+pub use setting::Setting;
 pub use stress::make_stress;
 pub use threads::{run_recorded, run_threads};
 pub use words::RunError;

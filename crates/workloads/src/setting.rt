@@ -2,11 +2,21 @@
 use final_pause::Helpers;
 use std::alloc::Global;
 
-/// On which threads a workload runs, with how many helpers its cycles end, and between the calls of which gate its own stand.
+/// How a workload runs: on which threads, over a heap of how many pages, and how its calls and its pauses go.
 #[derive(Drop)]
-pub(crate) struct Setting<'a, R, G> {
-    pub(crate) rt: &'a R,
-    pub(crate) alloc: Global,
-    pub(crate) helpers: Helpers,
-    pub(crate) gate: &'a G,
+pub struct Setting<'a, R, G> {
+    /// What starts the threads, and by what they wait.
+    pub rt: &'a R,
+
+    /// Where memory is taken.
+    pub alloc: Global,
+
+    /// The pages of the heap, which is the run's own.
+    pub pages: u32,
+
+    /// How many helpers end a cycle.
+    pub helpers: Helpers,
+
+    /// What is asked before and after each call of an actor.
+    pub gate: &'a G,
 }

@@ -181,19 +181,18 @@ fn run_named<J: Naming + Send + Sync, R: Threads + Wait + Sync, G: Gate>(
     run_on(&on, collector, workload)
 }
 
-// Runs the workload on a heap of its own of so many pages, with this journal.
+// Runs the workload on a heap of its own, with this journal.
 fn run_with<R: Threads + Wait + Sync, G: Gate>(
     setting: &Setting<'_, R, G>,
     journal: Journal,
     workload: &Workload,
-    pages: u32,
 ) -> Result<(Replies, Journal), RunError>
-    requires some { 1 ≤ pages }
-    requires most { pages ≤ MAX_PAGES }
+    requires some { 1 ≤ setting.now.pages }
+    requires most { setting.now.pages ≤ MAX_PAGES }
     requires journal { IsOf journal [] }
-    ensures { IfOk result (λ run. IsRun pages workload.now run.0 run.1) }
+    ensures { IfOk result (λ run. IsRun setting.now.pages workload.now run.0 run.1) }
 {
-    let Ok(opened) = open(setting.alloc, pages) else {
+    let Ok(opened) = open(setting.alloc, setting.pages) else {
         return Err(RunError::Memory);
     };
     Ok(run_named::<Brand, _, _>(setting, opened, journal, workload)?)
@@ -224,10 +223,11 @@ pub fn run_threads<R: Threads + Wait + Sync, G: Gate>(
     let setting = Setting {
         rt,
         alloc,
+        pages,
         helpers,
         gate,
     };
-    let (replies, _journal) = run_with(&setting, Journal::Off, workload, pages)?;
+    let (replies, _journal) = run_with(&setting, Journal::Off, workload)?;
     Ok(replies)
 }
 
@@ -237,25 +237,15 @@ pub fn run_threads<R: Threads + Wait + Sync, G: Gate>(
 /// # Errors
 /// [`RunError::Memory`]: as there, and where memory for an entry was refused.
 pub fn run_recorded<R: Threads + Wait + Sync, G: Gate>(
-    rt: &R,
-    alloc: Global,
+    setting: &Setting<'_, R, G>,
     workload: &Workload,
-    pages: u32,
-    helpers: Helpers,
-    gate: &G,
 ) -> Result<(Replies, Entries), RunError>
-    requires some { 1 ≤ pages }
-    requires most { pages ≤ MAX_PAGES }
-    ensures { IfOk result (λ run. Explains pages (map made_of run.1.list.items) workload.now run.0) }
+    requires some { 1 ≤ setting.now.pages }
+    requires most { setting.now.pages ≤ MAX_PAGES }
+    ensures { IfOk result (λ run. Explains setting.now.pages (map made_of run.1.list.items) workload.now run.0) }
 {
-    let journal = Journal::new(alloc);
-    let setting = Setting {
-        rt,
-        alloc,
-        helpers,
-        gate,
-    };
-    let (replies, journal) = run_with(&setting, journal, workload, pages)?;
+    let journal = Journal::new(setting.alloc);
+    let (replies, journal) = run_with(setting, journal, workload)?;
     let Journal::On(entries) = journal else {
         return Err(RunError::Memory);
     };
