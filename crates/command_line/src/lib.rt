@@ -14,7 +14,8 @@ mod obeying;
 mod recording;
 mod request;
 mod running;
-mod setup;
+mod streams;
 
 pub use request::{Request, read_words};
 pub use running::{answer, program};
+pub use streams::Streams;

@@ -9,7 +9,6 @@ ghost use Rattle.command_line.specs.Obeying.{as_fault, read_faults, HasRead, Has
 
 use crate::recording::run_recorded;
 use crate::request::Request;
-use crate::setup::{Recorded, Setup};
 use final_pause::Open;
 use programs::Fault;
 use scripts::{ScriptError, Sink, Source, Std, run_script};
@@ -18,7 +17,7 @@ use std::fs;
 use std::rt::Files;
 use std::sync::Wait;
 use std::thread::Threads;
-use workloads::{run_workload, write_stress};
+use workloads::{Setting, run_workload, write_stress};
 
 // What ends a command, as the program's fault.
 fn faulted(answer: Result<(), ScriptError>) -> Result<(), Fault>
@@ -76,44 +75,33 @@ fn run_file<F: Files, O: Sink>(
 
 // Runs the workload in a file, with nobody held back.
 fn threads<R: Files + Threads + Wait + Sync, O: Sink>(
-    alloc: Global,
-    rt: &R,
+    setting: &Setting<'_, R, Open>,
     path: &str,
     output: &mut O,
-    setup: &Setup,
 ) -> Result<(), Fault>
-    requires some { 1 ≤ setup.now.pages }
-    requires most { setup.now.pages ≤ MAX_PAGES }
-    ensures does { OfFile (λ (file file' : R.File). RunsWorkload R.File.remaining setup.now.pages (O.written output.old) (O.written output.new) file file' result) output.old output.new result }
+    requires some { 1 ≤ setting.now.pages }
+    requires most { setting.now.pages ≤ MAX_PAGES }
+    ensures does { OfFile (λ (file file' : R.File). RunsWorkload R.File.remaining setting.now.pages (O.written output.old) (O.written output.new) file file' result) output.old output.new result }
     ensures wrote { HasWritten O.faults result output.old output.new }
 {
-    let mut workload = open(rt, path)?;
-    faulted(run_workload(
-        rt,
-        alloc,
-        &mut workload,
-        output,
-        setup.pages,
-        setup.helpers,
-        &Open,
-    ))
+    let mut workload = open(setting.rt, path)?;
+    faulted(run_workload(setting, &mut workload, output))
 }
 
-// Runs the workload in a file, with nobody held back, and then writes down the history that its threads made.
+// Runs the workload in a file, with nobody held back, and then writes the history that its threads made to another.
 fn threads_recorded<R: Files + Threads + Wait + Sync, O: Sink>(
-    alloc: Global,
-    rt: &R,
+    setting: &Setting<'_, R, Open>,
     path: &str,
     output: &mut O,
-    recorded: &Recorded<'_>,
+    history: &str,
 ) -> Result<(), Fault>
-    requires some { 1 ≤ recorded.now.setup.pages }
-    requires most { recorded.now.setup.pages ≤ MAX_PAGES }
-    ensures does { OfFile (λ (file file' : R.File). RecordsWorkload R.File.remaining recorded.now.setup.pages (O.written output.old) (O.written output.new) file file' result) output.old output.new result }
+    requires some { 1 ≤ setting.now.pages }
+    requires most { setting.now.pages ≤ MAX_PAGES }
+    ensures does { OfFile (λ (file file' : R.File). RecordsWorkload R.File.remaining setting.now.pages (O.written output.old) (O.written output.new) file file' result) output.old output.new result }
     ensures wrote { HasWritten O.faults result output.old output.new }
 {
-    let mut workload = open(rt, path)?;
-    run_recorded(alloc, rt, &mut workload, output, recorded)
+    let mut workload = open(setting.rt, path)?;
+    run_recorded(setting, &mut workload, output, history)
 }
 
 // Writes a random script.
@@ -148,18 +136,24 @@ pub(crate) fn obey<R: Files + Threads + Wait + Sync, I: Source, O: Sink>(
         Request::Run(pages) => run(alloc, input, output, *pages),
         Request::RunFile(pages, path) => run_file(alloc, rt, path, output, *pages),
         Request::Threads(pages, helpers, path) => {
-            let setup = Setup {
+            let setting = Setting {
+                rt,
+                alloc,
                 pages: *pages,
                 helpers: *helpers,
+                gate: &Open,
             };
-            threads(alloc, rt, path, output, &setup)
+            threads(&setting, path, output)
         }
         Request::Record(pages, helpers, path, history) => {
-            let setup = Setup {
+            let setting = Setting {
+                rt,
+                alloc,
                 pages: *pages,
                 helpers: *helpers,
+                gate: &Open,
             };
-            threads_recorded(alloc, rt, path, output, &Recorded { setup, history })
+            threads_recorded(&setting, path, output, history)
         }
         Request::Stress(seed, mutators, steps) => stress(alloc, output, *seed, *mutators, *steps),
     }

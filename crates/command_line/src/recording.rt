@@ -4,7 +4,6 @@ ghost use Rattle.words.specs.declared.limits.TheConstants.{MAX_PAGES};
 ghost use Rattle.programs.specs.declared.fault.Fault.TheVariants.{WriteFile, NoRun, Memory};
 ghost use Rattle.command_line.specs.Obeying.{HasWritten, RecordsWorkload};
 
-use crate::setup::Recorded;
 use final_pause::Open;
 use programs::Fault;
 use scripts::{Sink, Source};
@@ -14,7 +13,7 @@ use std::rt::Files;
 use std::sync::Wait;
 use std::thread::Threads;
 use thread_records::{RecordError, run_written, text_of};
-use workloads::{Workload, print_replies};
+use workloads::{Setting, Workload, print_replies};
 
 // Why a history isn't written down, as the program's fault.
 fn unrecorded(error: RecordError) -> Fault
@@ -44,31 +43,28 @@ fn write_lines<F: Files>(
     }
 }
 
-/// Runs the workload in a reader, with nobody held back, and then writes down the history that its threads made.
+/// Runs the workload in a reader, with nobody held back, and then writes the history that its threads made to the file of this name.
 pub(crate) fn run_recorded<R: Files + Threads + Wait + Sync, I: Source, O: Sink>(
-    alloc: Global,
-    rt: &R,
+    setting: &Setting<'_, R, Open>,
     input: &mut I,
     output: &mut O,
-    recorded: &Recorded<'_>,
+    history: &str,
 ) -> Result<(), Fault>
-    requires some { 1 ≤ recorded.now.setup.pages }
-    requires most { recorded.now.setup.pages ≤ MAX_PAGES }
-    ensures does { RecordsWorkload I.remaining recorded.now.setup.pages (O.written output.old) (O.written output.new) input.old input.new result }
+    requires some { 1 ≤ setting.now.pages }
+    requires most { setting.now.pages ≤ MAX_PAGES }
+    ensures does { RecordsWorkload I.remaining setting.now.pages (O.written output.old) (O.written output.new) input.old input.new result }
     ensures wrote { HasWritten O.faults result output.old output.new }
 {
-    let workload = match Workload::read(alloc, input) {
+    let workload = match Workload::read(setting.alloc, input) {
         Ok(workload) => workload,
         Err(error) => return Err(Fault::of(error)),
     };
-    let pages = recorded.setup.pages;
-    let helpers = recorded.setup.helpers;
-    let (replies, lines) = match run_written(rt, alloc, &workload, pages, helpers, &Open) {
+    let (replies, lines) = match run_written(setting, &workload) {
         Ok(run) => run,
         Err(error) => return Err(unrecorded(error)),
     };
-    if let Err(error) = print_replies(&replies, pages, output) {
+    if let Err(error) = print_replies(&replies, setting.pages, output) {
         return Err(Fault::of(error));
     }
-    write_lines(alloc, rt, recorded.history, lines.as_slice())
+    write_lines(setting.alloc, setting.rt, history, lines.as_slice())
 }

@@ -7,6 +7,7 @@ ghost use Rattle.command_line.specs.Obeying.{IsAnswered, ProgramEnds};
 
 use crate::obeying::obey;
 use crate::request::{Request, read_words};
+use crate::streams::Streams;
 use programs::{Fault, end};
 use scripts::{Sink, Source};
 use std::alloc::Global;
@@ -37,16 +38,16 @@ pub fn answer<R: Files + Threads + Wait + Sync, I: Source, O: Sink, E: Sink>(
     alloc: Global,
     rt: &R,
     request: &Result<Request<'_>, Fault>,
-    input: &mut I,
-    output: &mut O,
-    errors: &mut E,
+    streams: &mut Streams<I, O, E>,
 ) -> u8
     requires { IfOk request.now CanBeDone }
     ensures { ProgramEnds
-        (IsAnswered I.remaining R.File.remaining O.written I.faults O.faults request.now input.old input.new output.old output.new)
-        result (E.written errors.old) (E.written errors.new) (E.faults errors.old) (E.faults errors.new) }
+        (IsAnswered I.remaining R.File.remaining O.written I.faults O.faults request.now
+        streams.old.input streams.new.input streams.old.output streams.new.output)
+        result (E.written streams.old.errors) (E.written streams.new.errors) (E.faults streams.old.errors) (E.faults streams.new.errors) }
 {
-    end(perform(alloc, rt, request, input, output), errors)
+    let ended = perform(alloc, rt, request, &mut streams.input, &mut streams.output);
+    end(ended, &mut streams.errors)
 }
 
 /// The program: does what its words ask for, without its own name among them, and answers the status.
@@ -54,13 +55,12 @@ pub fn program<R: Files + Threads + Wait + Sync, S: AsStr, I: Source, O: Sink, E
     alloc: Global,
     rt: &R,
     words: &[S],
-    input: &mut I,
-    output: &mut O,
-    errors: &mut E,
+    streams: &mut Streams<I, O, E>,
 ) -> u8
     ensures { (request : Result Request Fault) × MayBeRead request × ProgramEnds
-        (IsAnswered I.remaining R.File.remaining O.written I.faults O.faults request input.old input.new output.old output.new)
-        result (E.written errors.old) (E.written errors.new) (E.faults errors.old) (E.faults errors.new) }
+        (IsAnswered I.remaining R.File.remaining O.written I.faults O.faults request
+        streams.old.input streams.new.input streams.old.output streams.new.output)
+        result (E.written streams.old.errors) (E.written streams.new.errors) (E.faults streams.old.errors) (E.faults streams.new.errors) }
 {
-    answer(alloc, rt, &read_words(alloc, words), input, output, errors)
+    answer(alloc, rt, &read_words(alloc, words), streams)
 }
