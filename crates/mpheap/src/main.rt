@@ -2,7 +2,7 @@
 //! library each, runs are written down, judged and drawn.
 #![tactic(auto)]
 
-use command_line::program;
+use command_line::{Streams, program};
 use programs::{end, end_with_usage, own_words};
 use scripts::Std;
 use std::io;
@@ -32,15 +32,10 @@ fn main(rt: HostRuntime) -> ExitCode {
     if let Some(status) = own_command(&rt, words.as_slice()) {
         return ExitCode::from(status);
     }
-    let mut input = Std::new(rt.reader());
-    let mut output = Std::new(io::writer(&rt));
-    let status = program(
-        rt.alloc(),
-        &rt,
-        words.as_slice(),
-        &mut input,
-        &mut output,
-        &mut errors,
-    );
-    ExitCode::from(status)
+    let mut streams = Streams {
+        input: Std::new(rt.reader()),
+        output: Std::new(io::writer(&rt)),
+        errors,
+    };
+    ExitCode::from(program(rt.alloc(), &rt, words.as_slice(), &mut streams))
 }

@@ -62,9 +62,13 @@ const CASES: &[Case<'static>] = &[
     },
 ];
 
-fn check<R: Files + Threads + Wait + Abort + Sync>(rt: &R, called: &mut Called, case: &Case<'_>) {
-    let mut input = Script::new(case.input);
-    called.ends(rt, case.name, case.words, &mut input, case.end);
+fn check<'a, R: Files + Threads + Wait + Abort + Sync>(
+    rt: &R,
+    called: &mut Called<'a>,
+    case: &Case<'a>,
+) {
+    called.streams.input = Script::new(case.input);
+    called.ends(rt, case.name, case.words, case.end);
 }
 
 #[test]
@@ -118,14 +122,14 @@ const NO_FILE: &[&[&str]] = &[
 // With each of these words the program ends so, and reads nothing of its input.
 fn check_unread<R: Files + Threads + Wait + Abort + Sync>(
     rt: &R,
-    called: &mut Called,
+    called: &mut Called<'_>,
     all: &[&[&str]],
     end: End<'_>,
 ) {
     for words in all {
-        let mut input = Script::new(b"attach\n");
-        called.ends(rt, words.last().unwrap_or(&""), words, &mut input, end);
-        assert_eq!(rt; input.calls, 0);
+        called.streams.input = Script::new(b"attach\n");
+        called.ends(rt, words.last().unwrap_or(&""), words, end);
+        assert_eq!(rt; called.streams.input.calls, 0);
     }
 }
 

@@ -16,33 +16,33 @@ const STRESS: &[&str] = &["stress", "--seed", "1", "--mutators", "2", "--steps",
 const SCRIPT: &[u8] = b"attach\n0 get 1\n?\n";
 
 // What was read is answered.
-fn check_input<R: Files + Threads + Wait + Abort + Sync>(rt: &R, called: &mut Called) {
-    let mut input = Script::failing_at(SCRIPT, 7, 1);
+fn check_input<R: Files + Threads + Wait + Abort + Sync>(rt: &R, called: &mut Called<'_>) {
+    called.streams.input = Script::failing_at(SCRIPT, 7, 1);
     let end = (1, "mutator 0\n", "read fault\n");
-    called.ends(rt, "a read fault", RUN, &mut input, end);
-    assert_eq!(rt; input.calls, 2);
+    called.ends(rt, "a read fault", RUN, end);
+    assert_eq!(rt; called.streams.input.calls, 2);
 }
 
 // What was written before stands, and the rest of the script isn't run.
-fn check_output<R: Files + Threads + Wait + Abort + Sync>(rt: &R, called: &mut Called) {
-    let mut input = Script::new(SCRIPT);
-    called.output.fails_at = Some(1);
+fn check_output<R: Files + Threads + Wait + Abort + Sync>(rt: &R, called: &mut Called<'_>) {
+    called.streams.input = Script::new(SCRIPT);
+    called.streams.output.fails_at = Some(1);
     let end = (1, "mutator 0\n", "write fault\n");
-    called.ends(rt, "a write fault", RUN, &mut input, end);
-    called.output.fails_at = Some(0);
+    called.ends(rt, "a write fault", RUN, end);
+    called.streams.output.fails_at = Some(0);
     let end = (1, "", "write fault\n");
-    called.ends(rt, "a random script", STRESS, &mut input, end);
-    called.output.fails_at = None;
+    called.ends(rt, "a random script", STRESS, end);
+    called.streams.output.fails_at = None;
 }
 
 // A fault that can't be told leaves the status.
-fn check_errors<R: Files + Threads + Wait + Abort + Sync>(rt: &R, called: &mut Called) {
-    let mut input = Script::new(SCRIPT);
-    called.errors.fails_at = Some(0);
+fn check_errors<R: Files + Threads + Wait + Abort + Sync>(rt: &R, called: &mut Called<'_>) {
+    called.streams.input = Script::new(SCRIPT);
+    called.streams.errors.fails_at = Some(0);
     let end = (2, "mutator 0\n0\n", "");
-    called.ends(rt, "a bad line", RUN, &mut input, end);
-    called.ends(rt, "no words", &[], &mut input, (2, "", ""));
-    called.errors.fails_at = None;
+    called.ends(rt, "a bad line", RUN, end);
+    called.ends(rt, "no words", &[], (2, "", ""));
+    called.streams.errors.fails_at = None;
 }
 
 #[test]
