@@ -1,6 +1,6 @@
 //! Four mutators, each with a word of its own, beside a hundred cycles: each load answers what was stored last.
 
-use crate::runs::{Setting, run};
+use crate::runs::{run, setting};
 use final_pause::Open;
 use std::alloc::{AllocError, Global};
 use std::process::Abort;
@@ -51,8 +51,7 @@ fn check<R: Threads + Wait + Abort + Sync>(
     output: &mut Taken,
 ) {
     for helpers in [1u8, 4] {
-        let setting = Setting { pages: 8, helpers };
-        let answer = run(rt, alloc, lines.as_bytes(), setting, &Open, output);
+        let answer = run(&setting(rt, alloc, &Open, 8, helpers), lines, output);
         assert_eq!(rt; answer, Ok(()));
         let text = output.text().unwrap_or("");
         assert!(rt; text.starts_with(printed), "{helpers} helpers");

@@ -1,7 +1,7 @@
 //! Reads and allocations that fail.
 
 use crate::gates::Counts;
-use crate::runs::{Setting, mutators_of, run_read};
+use crate::runs::{mutators_of, run_read, setting};
 use scripts::ScriptError;
 use std::alloc::Global;
 use std::process::Abort;
@@ -38,12 +38,8 @@ fn check_not_run<R: Threads + Wait + Abort + Sync>(
     fault: ScriptError,
     output: &mut Taken,
 ) {
-    let setting = Setting {
-        pages: 4,
-        helpers: 1,
-    };
     let gate = Counts::new();
-    let answer = run_read(rt, alloc, input, setting, &gate, output);
+    let answer = run_read(&setting(rt, alloc, &gate, 4, 1), input, output);
     assert_eq!(rt; answer, Err(fault));
     assert_eq!(rt; gate.began.load(Ordering::SeqCst), 0);
     assert_eq!(rt; output.calls, 0);

@@ -1,16 +1,15 @@
 //! Cores that are marking: by each number of helpers the pause marks what the pause alone marks, and leaves nothing to read.
-use final_pause::{Helpers, Open};
+use crate::cores::{ask, close_with, drop_roots, run};
+use final_pause::Helpers;
 use heap_core::Core;
-use heap_spec::{Call, Event, Reply};
-use scripts::command;
-use scripts::limits::LINE_BYTES;
+use heap_spec::{Event, Reply};
 use std::alloc::Global;
 use std::process::Abort;
 use std::sync::Wait;
 use std::test::Fail;
 use std::thread::Threads;
-use words::limits::{FIRST_ADDRESS, GLOBALS, GRANULE_BYTES, MAX_HELPERS, PAGE_GRANULES};
-use words::{Refusal, Reg, Slot};
+use words::Refusal;
+use words::limits::{FIRST_ADDRESS, GRANULE_BYTES, MAX_HELPERS, PAGE_GRANULES};
 use workloads::make_stress;
 
 const PAGES: u32 = 8;
@@ -24,84 +23,65 @@ const STEPS: u32 = 500;
 // A cycle that has read a little when the pause comes.
 const MARKING: &str = "gc collect\ngc begin\ngc roots\ngc mark 10\n";
 
-// Makes the calls of some lines.
-pub(crate) fn run(core: &mut Core, text: &[u8]) -> Result<(), Fail> {
-    for line in text.split(|byte| *byte == b'\n') {
-        if !line.is_empty() && line.len() <= LINE_BYTES {
-            let event = command(line).ok_or("a command")?;
-            let _reply = ask(core, event);
-        }
+// Two cores to which the same calls are made. The cycles of one end with helpers, and those of the other alone.
+#[derive(Drop)]
+struct Cores {
+    helped: Core,
+    alone: Core,
+}
+
+impl Cores {
+    fn new(alloc: Global) -> Result<Cores, Fail> {
+        let helped = Core::new(alloc, PAGES).ok().ok_or("a core")?;
+        let alone = Core::new(alloc, PAGES).ok().ok_or("a core")?;
+        Ok(Cores { helped, alone })
     }
-    Ok(())
 }
 
-// Each call has a function of its own: what a call promises isn't carried on to the next.
-pub(crate) fn ask(core: &mut Core, event: Event) -> Reply {
-    core.act(event)
-}
-
-pub(crate) fn close_with(
-    rt: &(impl Threads + Wait + Sync),
-    alloc: Global,
-    core: &mut Core,
-    helpers: Helpers,
-) -> Result<(), Refusal> {
-    core.close_with(rt, alloc, helpers, &Open)
-}
-
-// No global points into an object any more.
-fn clear_globals(core: &mut Core) -> Result<(), Fail> {
-    let slot = Slot::new(0).ok_or("a slot")?;
-    let zero = Reg::new(1).ok_or("a register")?;
-    run(core, b"0 set 1 0\n")?;
-    for number in 0..GLOBALS {
-        let global = words::Global::new(number).ok_or("a global")?;
-        let _reply = ask(core, Event::Mutator(slot, Call::GlobalPut(global, zero)));
-    }
-    Ok(())
-}
-
-// Lets go of every root, after which the end of a cycle keeps what is marked and no more.
-pub(crate) fn drop_roots(core: &mut Core) -> Result<(), Fail> {
-    clear_globals(core)?;
-    run(core, b"0 detach\n1 detach\n2 detach\n")
+// Both make the calls of some lines.
+fn run_both(cores: &mut Cores, text: &[u8]) -> Result<(), Fail> {
+    run(&mut cores.helped, text)?;
+    run(&mut cores.alone, text)
 }
 
 // Both end their cycles, and keep the same.
-fn end_alike(rt: &impl Abort, helped: &mut Core, alone: &mut Core) {
-    assert_eq!(rt; ask(helped, Event::Finish), ask(alone, Event::Finish));
+fn end_alike(rt: &impl Abort, cores: &mut Cores) {
+    let helped = ask(&mut cores.helped, Event::Finish);
+    let alone = ask(&mut cores.alone, Event::Finish);
+    assert_eq!(rt; helped, alone);
     for granule in 0..PAGE_GRANULES * u64::from(PAGES) {
         let address = FIRST_ADDRESS + GRANULE_BYTES * granule;
         assert!(rt;
-            helped.kept_at(address) == alone.kept_at(address),
+            cores.helped.kept_at(address) == cores.alone.kept_at(address),
             "at {address}"
         );
     }
 }
 
 // The helped core has nothing left to read, and its marks alone keep what the other one keeps.
-fn compare(rt: &impl Abort, helped: &mut Core, alone: &mut Core) -> Result<(), Fail> {
-    assert_eq!(rt; ask(helped, Event::Mark(u64::MAX)), Reply::Count(0));
-    assert_eq!(rt; ask(helped, Event::Retrace), Reply::Count(0));
-    drop_roots(helped)?;
-    end_alike(rt, helped, alone);
+fn compare(rt: &impl Abort, cores: &mut Cores) -> Result<(), Fail> {
+    assert_eq!(rt;
+        ask(&mut cores.helped, Event::Mark(u64::MAX)),
+        Reply::Count(0)
+    );
+    assert_eq!(rt; ask(&mut cores.helped, Event::Retrace), Reply::Count(0));
+    drop_roots(&mut cores.helped)?;
+    end_alike(rt, cores);
     Ok(())
 }
 
-// Two cores to which the same calls were made, one of them with so many helpers.
+// A cycle that is marking ends with so many helpers.
 fn check(
     rt: &(impl Abort + Threads + Wait + Sync),
     alloc: Global,
-    helped: &mut Core,
-    alone: &mut Core,
+    cores: &mut Cores,
     text: &[u8],
     number: u8,
 ) -> Result<(), Fail> {
-    run(helped, text)?;
-    run(alone, text)?;
+    run_both(cores, text)?;
     let helpers = Helpers::new(number).ok_or("a number of helpers")?;
-    assert_eq!(rt; close_with(rt, alloc, helped, helpers), Ok(()));
-    compare(rt, helped, alone)
+    assert_eq!(rt; close_with(rt, alloc, &mut cores.helped, helpers), Ok(()));
+    compare(rt, cores)
 }
 
 // The same on new cores.
@@ -111,9 +91,8 @@ fn check_new(
     text: &[u8],
     number: u8,
 ) -> Result<(), Fail> {
-    let mut helped = Core::new(alloc, PAGES).ok().ok_or("a core")?;
-    let mut alone = Core::new(alloc, PAGES).ok().ok_or("a core")?;
-    check(rt, alloc, &mut helped, &mut alone, text, number)
+    let mut cores = Cores::new(alloc)?;
+    check(rt, alloc, &mut cores, text, number)
 }
 
 // By each number of helpers.
@@ -152,19 +131,17 @@ fn begin_partial(rt: &impl Abort, core: &mut Core) -> Result<(), Fail> {
 fn check_partial(
     rt: &(impl Abort + Threads + Wait + Sync),
     alloc: Global,
-    helped: &mut Core,
-    alone: &mut Core,
+    cores: &mut Cores,
     text: &[u8],
     helpers: Helpers,
 ) -> Result<(), Fail> {
-    run(helped, text)?;
-    run(alone, text)?;
-    assert_eq!(rt; close_with(rt, alloc, helped, helpers), Ok(()));
-    end_alike(rt, helped, alone);
-    begin_partial(rt, helped)?;
-    begin_partial(rt, alone)?;
-    assert_eq!(rt; close_with(rt, alloc, helped, helpers), Ok(()));
-    end_alike(rt, helped, alone);
+    run_both(cores, text)?;
+    assert_eq!(rt; close_with(rt, alloc, &mut cores.helped, helpers), Ok(()));
+    end_alike(rt, cores);
+    begin_partial(rt, &mut cores.helped)?;
+    begin_partial(rt, &mut cores.alone)?;
+    assert_eq!(rt; close_with(rt, alloc, &mut cores.helped, helpers), Ok(()));
+    end_alike(rt, cores);
     Ok(())
 }
 
@@ -174,10 +151,9 @@ fn check_new_partial(
     text: &[u8],
     number: u8,
 ) -> Result<(), Fail> {
-    let mut helped = Core::new(alloc, PAGES).ok().ok_or("a core")?;
-    let mut alone = Core::new(alloc, PAGES).ok().ok_or("a core")?;
+    let mut cores = Cores::new(alloc)?;
     let helpers = Helpers::new(number).ok_or("a number of helpers")?;
-    check_partial(rt, alloc, &mut helped, &mut alone, text, helpers)
+    check_partial(rt, alloc, &mut cores, text, helpers)
 }
 
 // By each number of helpers.

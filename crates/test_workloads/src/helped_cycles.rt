@@ -2,7 +2,7 @@
 //! read by the next cycle.
 
 use crate::gates::InTurn;
-use crate::runs::{Setting, run};
+use crate::runs::{run, setting};
 use final_pause::COLLECTOR_ACTOR;
 use std::alloc::{AllocError, Global};
 use std::process::Abort;
@@ -32,11 +32,8 @@ fn check<R: Threads + Wait + Abort + Sync>(
     output: &mut Taken,
 ) {
     let gate = InTurn::new(row.order);
-    let setting = Setting {
-        pages: row.pages,
-        helpers,
-    };
-    let answer = run(rt, alloc, row.lines.as_bytes(), setting, &gate, output);
+    let setting = setting(rt, alloc, &gate, row.pages, helpers);
+    let answer = run(&setting, row.lines, output);
     assert_eq!(rt; answer, Ok(()));
     assert_eq!(rt; gate.missed.load(Ordering::SeqCst), 0);
     assert_eq!(rt; output.text(), Some(row.printed), "{helpers} helpers");

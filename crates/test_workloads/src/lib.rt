@@ -5,6 +5,8 @@
 #[cfg(test)]
 mod beside_cycles;
 #[cfg(test)]
+mod cores;
+#[cfg(test)]
 mod failures;
 #[cfg(test)]
 mod gates;

@@ -1,7 +1,7 @@
 //! A cycle that runs while a mutator is held back, ended with helpers that meet, and memory that is refused then.
 
 use crate::gates::{HeldPause, TURNS};
-use crate::runs::{Setting, run};
+use crate::runs::{run, setting};
 use scripts::ScriptError;
 use std::alloc::Global;
 use std::process::Abort;
@@ -27,11 +27,8 @@ fn check_pause<R: Threads + Wait + Abort + Sync>(
 ) {
     let (helpers, claimers) = numbers;
     let gate = HeldPause::new(claimers, TURNS);
-    let setting = Setting {
-        pages: PAGES,
-        helpers,
-    };
-    let answer = run(rt, alloc, LINES.as_bytes(), setting, &gate, output);
+    let setting = setting(rt, alloc, &gate, PAGES, helpers);
+    let answer = run(&setting, LINES, output);
     assert_eq!(rt; answer, Ok(()));
     assert_eq!(rt; gate.missed.load(Ordering::SeqCst), 0);
     assert_eq!(rt; gate.claiming.load(Ordering::SeqCst), claimers);
@@ -60,11 +57,7 @@ fn run_row<R: Threads + Wait + Abort + Sync>(
     output: &mut Taken,
 ) -> Result<(), ScriptError> {
     let gate = HeldPause::new(0, FEW_TURNS);
-    let setting = Setting {
-        pages: PAGES,
-        helpers: 2,
-    };
-    run(rt, alloc, LINES.as_bytes(), setting, &gate, output)
+    run(&setting(rt, alloc, &gate, PAGES, 2), LINES, output)
 }
 
 fn check_memory<R: Threads + Wait + Abort + Sync>(rt: &R, alloc: Global, output: &mut Taken) {

@@ -2,7 +2,7 @@
 //! never the address of an object that left. `tests/random.sh` makes the calls in whatever order comes.
 
 use crate::gates::InTurn;
-use crate::runs::{Setting, run};
+use crate::runs::{run, setting};
 use final_pause::COLLECTOR_ACTOR;
 use std::alloc::Global;
 use std::process::Abort;
@@ -55,8 +55,7 @@ fn check_order<R: Threads + Wait + Abort + Sync>(
 ) {
     let (order, printed) = row;
     let gate = InTurn::new(order);
-    let setting = Setting { pages: 4, helpers };
-    let answer = run(rt, alloc, LINES.as_bytes(), setting, &gate, output);
+    let answer = run(&setting(rt, alloc, &gate, 4, helpers), LINES, output);
     assert_eq!(rt; answer, Ok(()));
     assert_eq!(rt; gate.missed.load(Ordering::SeqCst), 0);
     assert_eq!(rt; output.text(), Some(printed), "{helpers} helpers");

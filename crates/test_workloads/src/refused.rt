@@ -2,7 +2,7 @@
 //! the N-th request, and `tests/refused_threads.sh` each thread in turn.
 
 use crate::gates::Counts;
-use crate::runs::{Setting, run};
+use crate::runs::{run, setting};
 use scripts::ScriptError;
 use std::alloc::Global;
 use std::process::Abort;
@@ -11,11 +11,6 @@ use std::sync::atomic::Ordering;
 use std::thread::Threads;
 use test_io::Taken;
 use words::limits::MAX_HELPERS;
-
-const SETTING: Setting = Setting {
-    pages: 4,
-    helpers: MAX_HELPERS,
-};
 
 // One of each mutator, and three of the collector, beside those of helpers.
 const CALLS: u64 = 19;
@@ -40,7 +35,8 @@ fn calls_of<R: Threads + Wait + Abort + Sync>(
     output: &mut Taken,
 ) -> Result<u64, ScriptError> {
     let gate = Counts::new();
-    let answer = run(rt, alloc, LINES.as_bytes(), SETTING, &gate, output);
+    let setting = setting(rt, alloc, &gate, 4, MAX_HELPERS);
+    let answer = run(&setting, LINES, output);
     let began = gate.began.load(Ordering::SeqCst);
     assert_eq!(rt; gate.ended.load(Ordering::SeqCst), began);
     match answer {

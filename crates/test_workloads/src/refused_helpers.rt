@@ -1,6 +1,6 @@
 //! A pause with helpers where memory or a thread is refused. By itself this runs with ample memory and threads enough; `rt try
 //! --test --fail-alloc N` refuses the N-th request, and `tests/refused_threads.sh` refuses each thread in turn.
-use crate::helped_cores::{ask, close_with, drop_roots, run};
+use crate::cores::{ask, close_with, drop_roots, run};
 use final_pause::Helpers;
 use heap_core::Core;
 use heap_spec::{Event, Reply};

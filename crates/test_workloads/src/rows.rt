@@ -1,7 +1,7 @@
 //! Worked rows under gates.
 
 use crate::gates::{Meeting, TwoThreads};
-use crate::runs::{Setting, run};
+use crate::runs::{run, setting};
 use std::alloc::Global;
 use std::process::Abort;
 use std::sync::Wait;
@@ -10,16 +10,11 @@ use std::test::Fail;
 use std::thread::Threads;
 use test_io::Taken;
 
-const SETTING: Setting = Setting {
-    pages: 4,
-    helpers: 1,
-};
-
 const TWO_THREADS: &str = "attach\nattach\n0 set 1 5\n0 gput 0 1\n1 set 2 7\n1 gget 3 0\n";
 
 fn check_two<R: Threads + Wait + Abort + Sync>(rt: &R, alloc: Global, output: &mut Taken) {
     let gate = TwoThreads::new();
-    let answer = run(rt, alloc, TWO_THREADS.as_bytes(), SETTING, &gate, output);
+    let answer = run(&setting(rt, alloc, &gate, 4, 1), TWO_THREADS, output);
     assert_eq!(rt; answer, Ok(()));
     assert_eq!(rt; gate.missed.load(Ordering::SeqCst), 0);
     assert_eq!(rt; gate.there.load(Ordering::SeqCst), 2);
@@ -42,7 +37,7 @@ const SIXTEEN: &str =
 
 fn check_meeting<R: Threads + Wait + Abort + Sync>(rt: &R, alloc: Global, output: &mut Taken) {
     let gate = Meeting::new(17);
-    let answer = run(rt, alloc, SIXTEEN.as_bytes(), SETTING, &gate, output);
+    let answer = run(&setting(rt, alloc, &gate, 4, 1), SIXTEEN, output);
     assert_eq!(rt; answer, Ok(()));
     assert_eq!(rt; gate.missed.load(Ordering::SeqCst), 0);
     assert_eq!(rt; gate.there.load(Ordering::SeqCst), 17);

@@ -8,13 +8,23 @@ use std::sync::Wait;
 use std::thread::Threads;
 use test_io::{Script, Taken};
 use words::limits::MAX_PAGES;
-use workloads::{Workload, run_workload};
+use workloads::{Setting, Workload, run_workload};
 
-/// The pages of a run's heap, and the helpers that end its cycles.
-#[derive(Clone, Copy)]
-pub struct Setting {
-    pub pages: u32,
-    pub helpers: u8,
+/// How a workload runs between the calls of a gate: over a heap of so many pages, with cycles that so many helpers end.
+pub fn setting<'a, R: Abort, G>(
+    rt: &'a R,
+    alloc: Global,
+    gate: &'a G,
+    pages: u32,
+    helpers: u8,
+) -> Setting<'a, R, G> {
+    Setting {
+        rt,
+        alloc,
+        pages,
+        helpers: Helpers::new(helpers).expect(rt, "helpers"),
+        gate,
+    }
 }
 
 /// The number of a workload's mutators, or the fault.
@@ -27,29 +37,21 @@ pub fn mutators_of(alloc: Global, input: &mut Script<'_>) -> Result<usize, Scrip
 
 /// Runs a workload that a reader gives, and keeps what was printed.
 pub fn run_read<R: Threads + Wait + Abort + Sync, G: Gate>(
-    rt: &R,
-    alloc: Global,
+    setting: &Setting<'_, R, G>,
     input: &mut Script<'_>,
-    setting: Setting,
-    gate: &G,
     output: &mut Taken,
 ) -> Result<(), ScriptError> {
-    let Setting { pages, helpers } = setting;
-    assert!(rt; 1 <= pages && pages <= MAX_PAGES);
-    let helpers = Helpers::new(helpers).expect(rt, "helpers");
+    assert!(setting.rt; 1 <= setting.pages && setting.pages <= MAX_PAGES);
     output.clear();
-    run_workload(rt, alloc, input, output, pages, helpers, gate)
+    run_workload(setting, input, output)
 }
 
 /// Runs a workload, and keeps what was printed.
 pub fn run<R: Threads + Wait + Abort + Sync, G: Gate>(
-    rt: &R,
-    alloc: Global,
-    text: &[u8],
-    setting: Setting,
-    gate: &G,
+    setting: &Setting<'_, R, G>,
+    text: &str,
     output: &mut Taken,
 ) -> Result<(), ScriptError> {
-    let mut input = Script::new(text);
-    run_read(rt, alloc, &mut input, setting, gate, output)
+    let mut input = Script::new(text.as_bytes());
+    run_read(setting, &mut input, output)
 }

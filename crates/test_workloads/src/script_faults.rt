@@ -104,16 +104,14 @@ fn check_write_fault(
     assert_eq!(rt; output.calls, call.saturating_add(1));
 }
 
-// A writer that takes one byte a call, and one that takes all, fail at this call, or take none.
+// A writer fails at this call, or takes none.
 fn check_call(
     rt: &impl Abort,
     output: &mut Taken,
     call: usize,
-    most: usize,
     written: Option<&str>,
     alloc: Global,
 ) {
-    output.most = most;
     output.fails_at = Some(call);
     output.stops_at = None;
     output.clear();
@@ -124,16 +122,16 @@ fn check_call(
     check_write_fault(rt, output, call, written, alloc);
 }
 
-// Where a writer fails, and where it takes none of some bytes, that call is the last.
+// Where a writer that takes one byte a call, or all, fails, and where it takes none of some bytes, that call is the last.
 #[test]
 fn every_write_fails(rt: HostRuntime) -> Result<(), Fail> {
-    let mut output = Taken::new(rt.alloc())?;
+    let mut slow = Taken::limited(rt.alloc(), 1, None)?;
     for call in 0..REPLIES.len() {
-        check_call(&rt, &mut output, call, 1, REPLIES.get(..call), rt.alloc());
+        check_call(&rt, &mut slow, call, REPLIES.get(..call), rt.alloc());
     }
+    let mut whole = Taken::new(rt.alloc())?;
     for call in 0..LINES {
-        let written = Some(replies_to(call));
-        check_call(&rt, &mut output, call, usize::MAX, written, rt.alloc());
+        check_call(&rt, &mut whole, call, Some(replies_to(call)), rt.alloc());
     }
     Ok(())
 }

@@ -2,7 +2,7 @@
 //! mutator does any of it.
 
 use crate::gates::InTurn;
-use crate::runs::{Setting, run};
+use crate::runs::{run, setting};
 use final_pause::COLLECTOR_ACTOR;
 use std::alloc::Global;
 use std::process::Abort;
@@ -58,11 +58,7 @@ fn check_steps<R: Threads + Wait + Abort + Sync>(
 ) {
     let (lines, replies, order) = row;
     let gate = InTurn::new(order);
-    let setting = Setting {
-        pages: 4,
-        helpers: 1,
-    };
-    let answer = run(rt, alloc, lines.as_bytes(), setting, &gate, output);
+    let answer = run(&setting(rt, alloc, &gate, 4, 1), lines, output);
     assert_eq!(rt; answer, Ok(()));
     assert_eq!(rt; gate.missed.load(Ordering::SeqCst), 0);
     assert_eq!(rt; output.text(), Some(replies));

@@ -1,6 +1,6 @@
 //! Workloads that are run with nobody held back, and whose order of calls changes no reply.
 
-use crate::runs::{Setting, run};
+use crate::runs::{run, setting};
 use final_pause::Open;
 use scripts::ScriptError;
 use std::alloc::Global;
@@ -23,11 +23,7 @@ fn check<R: Threads + Wait + Abort + Sync>(
     workload: &Workload<'_>,
     output: &mut Taken,
 ) {
-    let setting = Setting {
-        pages: 4,
-        helpers: 1,
-    };
-    let answer = run(rt, alloc, workload.text.as_bytes(), setting, &Open, output);
+    let answer = run(&setting(rt, alloc, &Open, 4, 1), workload.text, output);
     assert!(rt; answer == workload.answer, "{}", workload.text);
     assert_eq!(rt; output.text(), Some(workload.printed), "{}", workload.text);
 }
