@@ -66,7 +66,7 @@ fn take_runs(free: &mut [u64]) -> u64 {
 fn lay_page() -> Page {
     let mut block = Block::new(Class::of(6), Kind::Normal);
     for cell in (0..85).filter(|cell| cell % 4 != 3) {
-        set(&mut block.taken, cell);
+        set(&mut block.taken, 3 * cell);
     }
     Page::Cut(block)
 }

@@ -9,7 +9,7 @@ mod plain_row;
 use plain_class::Class;
 use plain_figures::report;
 use plain_map::{Block, Found, Kind, Page, START, find, object_at};
-use plain_marker::{Marker, granule};
+use plain_marker::{Entry, Marker, granule};
 use plain_row::set;
 use std::hint::black_box;
 use std::sync::atomic::{AtomicU64, Ordering::SeqCst};
@@ -100,8 +100,8 @@ impl Pause<'_> {
     }
 
     // The entries that were dealt to the helper. No page is dirty here when helpers start.
-    fn read_entries(&self, helper: &mut Helper, entries: &[(u64, u32)]) {
-        for (base, next) in entries {
+    fn read_entries(&self, helper: &mut Helper, entries: &[Entry]) {
+        for Entry { base, next, .. } in entries {
             if let Some(found) = find(self.map, *base) {
                 self.read_words(helper, found, *next);
             }
@@ -109,7 +109,7 @@ impl Pause<'_> {
         }
     }
 
-    fn help(&self, place: usize, entries: &[(u64, u32)]) -> Helper {
+    fn help(&self, place: usize, entries: &[Entry]) -> Helper {
         let mut helper = Helper { stack: [0; ENTRIES], len: 0, dirty: vec![0; PAGES / 64], carried: vec![0; PAGES / 64] };
         for word in self.roots.iter().skip(place).step_by(self.helpers) {
             self.visit(&mut helper, *word);
@@ -121,7 +121,7 @@ impl Pause<'_> {
 }
 
 // What is dealt to a place: every entry that is left over whose number is that of the place modulo the number of helpers.
-fn deal(marker: &Marker, place: usize, helpers: usize) -> Vec<(u64, u32)> {
+fn deal(marker: &Marker, place: usize, helpers: usize) -> Vec<Entry> {
     marker.waiting().iter().copied().chain(marker.current()).skip(place).step_by(helpers).collect()
 }
 

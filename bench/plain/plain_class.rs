@@ -14,6 +14,24 @@ const CELLS: [u16; CLASSES] = [256, 128, 85, 64, 42, 32, 21, 16, 10, 8, 5, 4, 2]
 const RECIPROCALS: [u32; CLASSES] =
     [65_536, 32_768, 21_846, 16_384, 10_923, 8_192, 5_462, 4_096, 2_731, 2_048, 1_366, 1_024, 512];
 
+// The granules at which cells begin: four words of bits, the lowest first.
+const BEGINS: [[u64; 4]; CLASSES] = begins();
+
+const fn begins() -> [[u64; 4]; CLASSES] {
+    let mut begins = [[0; 4]; CLASSES];
+    let mut number = 0;
+    while number < CLASSES {
+        let mut cell = 0;
+        while cell < CELLS[number] {
+            let granule = (cell * (WORDS[number] / 2)) as usize;
+            begins[number][granule / 64] |= 1 << (granule % 64);
+            cell += 1;
+        }
+        number += 1;
+    }
+    begins
+}
+
 const MAX_SMALL_WORDS: u64 = 256;
 const MAX_REQUEST_WORDS: u64 = 65_536;
 const PAGE_WORDS: u64 = 512;
@@ -70,6 +88,12 @@ impl Class {
     #[inline]
     pub fn cells(self) -> u16 {
         CELLS[self.number()]
+    }
+
+    /// The granules at which they begin.
+    #[inline]
+    pub fn begins(self) -> &'static [u64; 4] {
+        &BEGINS[self.number()]
     }
 
     /// What a granule of a page is multiplied by, to be divided by those of a cell. The quotient is then the product

@@ -15,7 +15,7 @@ pub enum Kind {
     PointerFree,
 }
 
-/// A page cut into cells, and which of them are allocated.
+/// A page cut into cells, and the granules at which allocated ones begin.
 pub struct Block {
     pub class: Class,
     pub kind: Kind,
@@ -53,29 +53,44 @@ impl Block {
 
     #[inline]
     fn cell_of(&self, w: u64) -> Option<u16> {
-        let cell = (w % 4_096 / 16) as u32 * self.reciprocal / 65_536;
-        (cell < u32::from(self.cells)).then_some(cell as u16)
+        let cell = self.cell_at((w % 4_096 / 16) as u32);
+        (cell < self.cells).then_some(cell)
+    }
+
+    // The cell that has a granule of the page.
+    #[inline]
+    fn cell_at(&self, granule: u32) -> u16 {
+        (granule * self.reciprocal / 65_536) as u16
+    }
+
+    // The granule at which a cell begins.
+    #[inline]
+    fn granule_at(&self, cell: u16) -> usize {
+        usize::from(cell) * usize::from(self.class.words() / 2)
     }
 
     // The lowest free cell.
     #[inline]
     fn first_free(&self) -> Option<u16> {
-        let cell = next(&self.taken, 0, false)? as u16;
-        (cell < self.cells).then_some(cell)
+        let begins = self.class.begins();
+        let word = (0..4).find(|word| begins[*word] & !self.taken[*word] != 0)?;
+        Some(self.cell_at(64 * word as u32 + (begins[word] & !self.taken[word]).trailing_zeros()))
     }
 
     /// Allocates the lowest free cell.
     #[inline]
     pub fn take(&mut self) -> Option<u16> {
         let cell = self.first_free()?;
-        set(&mut self.taken, usize::from(cell));
+        let granule = self.granule_at(cell);
+        set(&mut self.taken, granule);
         Some(cell)
     }
 
     /// Makes a cell free.
     #[inline]
     pub fn put(&mut self, cell: u16) {
-        clear(&mut self.taken, usize::from(cell));
+        let granule = self.granule_at(cell);
+        clear(&mut self.taken, granule);
     }
 
     /// Whether every cell is allocated.
@@ -90,41 +105,17 @@ impl Block {
         self.taken == [0; 4]
     }
 
-    // Adds the marked cells that begin at the granules of a word of the page's marks.
-    #[inline]
-    fn add_marked(&self, live: &mut [u64; 4], word: usize, mut marks: u64) {
-        let granules = u32::from(self.class.words()) / 2;
-        while marks != 0 {
-            let granule = 64 * word as u32 + marks.trailing_zeros();
-            let cell = granule * self.reciprocal / 65_536;
-            if cell < u32::from(self.cells) && cell * granules == granule {
-                set(live, cell as usize);
-            }
-            marks &= marks - 1;
-        }
-    }
-
     /// Makes each cell free that isn't marked.
     pub fn sweep(&mut self, marks: &[u64]) {
-        let mut live = [0; 4];
-        for (word, marks) in marks.iter().enumerate() {
-            self.add_marked(&mut live, word, *marks);
-        }
-        for (taken, live) in self.taken.iter_mut().zip(live) {
-            *taken &= live;
+        for (taken, marks) in self.taken.iter_mut().zip(marks) {
+            *taken &= marks;
         }
     }
 
     #[inline]
     fn next_taken(&self, from: u16) -> Option<u16> {
-        let mut word = usize::from(from / 64);
-        let mut rest = self.taken[word] & (u64::MAX << (from % 64));
-        while rest == 0 {
-            word += 1;
-            rest = *self.taken.get(word)?;
-        }
-        let cell = 64 * word as u16 + rest.trailing_zeros() as u16;
-        (cell < self.cells).then_some(cell)
+        let granule = next(&self.taken, self.granule_at(from), true)?;
+        Some(self.cell_at(granule as u32))
     }
 
     #[inline]
@@ -154,10 +145,21 @@ pub fn find(map: &[Page], w: u64) -> Option<Found> {
     let page = w.checked_sub(START)? / 4_096;
     let state = map.get(page as usize)?;
     if let Page::Cut(block) = state {
+        if let Some(found) = begun(page as u32, block, w) {
+            return Some(found);
+        }
         let cell = block.cell_of(w)?;
-        return is_set(&block.taken, usize::from(cell)).then(|| block.at(page as u32, cell));
+        return is_set(&block.taken, block.granule_at(cell)).then(|| block.at(page as u32, cell));
     }
     find_large(map, state, page as u32)
+}
+
+// The object of a block that begins at a word.
+#[inline(always)]
+fn begun(page: u32, block: &Block, w: u64) -> Option<Found> {
+    let granule = (w % 4_096 / 16) as usize;
+    let begins = w % 16 == 0 && is_set(&block.taken, granule);
+    begins.then(|| Found { base: w, len: u32::from(block.class.words()), kind: block.kind, page, cell: block.cell_at(granule as u32) })
 }
 
 // Most words point into cells.

@@ -19,6 +19,14 @@ const TOGETHER: usize = 8;
 const WIDE: usize = 2 * TOGETHER;
 const CROWDED: usize = ENTRIES - 4 * TOGETHER;
 
+/// An object to be read: its base, the number of its next word, and how many words it has.
+#[derive(Clone, Copy, Default)]
+pub struct Entry {
+    pub base: u64,
+    pub next: u32,
+    pub len: u32,
+}
+
 // An object that was taken off the stack, and its first two words.
 #[derive(Clone, Copy, Default)]
 struct Begun {
@@ -34,13 +42,13 @@ pub fn granule(address: u64) -> usize {
     ((address - START) / 16) as usize
 }
 
-/// Marks, dirty and carried pages, and the objects to be read, each with the number of its next word.
+/// Marks, dirty and carried pages, and the entries of the objects to be read.
 pub struct Marker {
     pub marks: Vec<u64>,
     pub dirty: Vec<u64>,
     pub carried: Vec<u64>,
-    current: Option<(u64, u32)>,
-    stack: [(u64, u32); ENTRIES],
+    current: Option<Entry>,
+    stack: [Entry; ENTRIES],
     len: usize,
 }
 
@@ -52,7 +60,7 @@ impl Marker {
             dirty: vec![0; pages.div_ceil(64)],
             carried: vec![0; pages.div_ceil(64)],
             current: None,
-            stack: [(0, 0); ENTRIES],
+            stack: [Entry::default(); ENTRIES],
             len: 0,
         }
     }
@@ -134,7 +142,7 @@ impl Marker {
                 set(&mut self.dirty, page as usize);
             }
         } else {
-            self.stack[self.len] = (found.base, 0);
+            self.stack[self.len] = Entry { base: found.base, next: 0, len: found.len };
             self.len += 1;
         }
         false
@@ -187,7 +195,7 @@ impl Marker {
     }
 
     // The object of which an entry has words left.
-    fn unread(&self, map: &[Page], (base, next): (u64, u32)) -> Option<Found> {
+    fn unread(&self, map: &[Page], Entry { base, next, .. }: Entry) -> Option<Found> {
         let found = find(map, base)?;
         let is_unread = found.base == base && found.kind == Kind::Normal && next < found.len && self.is_marked(base);
         is_unread.then_some(found)
@@ -197,12 +205,18 @@ impl Marker {
         self.unread(map, self.current?)
     }
 
+    // Whether an entry has words left, of an object of the length that it says.
+    #[inline]
+    fn is_known(&self, map: &[Page], entry: Entry) -> bool {
+        self.unread(map, entry).is_some_and(|found| found.len == entry.len)
+    }
+
     // From which number on the entries that wait are known to have a word: from `known` on they are, and below some are looked up.
     #[inline(never)]
     fn look_below(&self, map: &[Page], known: usize, most: u64) -> usize {
         let mut lowest = known;
         for _ in 0..(most / WORDS_A_LOOK).min(LOOKS) {
-            if lowest == 0 || self.unread(map, self.stack[lowest - 1]).is_none() {
+            if lowest == 0 || !self.is_known(map, self.stack[lowest - 1]) {
                 return lowest;
             }
             lowest -= 1;
@@ -233,7 +247,7 @@ impl Marker {
     #[inline]
     fn next(&mut self, map: &[Page], known: usize) -> Option<Found> {
         match self.current {
-            Some((base, _)) if known <= self.len => Some(object_at(map, base)),
+            Some(entry) if known <= self.len => Some(object_at(map, entry.base)),
             _ => self.settle(map),
         }
     }
@@ -254,14 +268,14 @@ impl Marker {
     }
 
     fn read_off(&mut self, map: &[Page], heap_bytes: u64, memory: &[u64], found: Found, known: usize, most: u64) -> u64 {
-        let Some((base, next)) = self.current else {
+        let Some(Entry { base, next, .. }) = self.current else {
             unreachable!();
         };
         let left = u64::from(found.len - next);
         let on_page = 512 - ((base - START) / 8 + u64::from(next)) % 512;
         let count = left.min(most).min(on_page);
         self.mark_words(map, heap_bytes, memory, base, next, count);
-        self.current = Some((base, next + count as u32));
+        self.current = Some(Entry { base, next: next + count as u32, len: found.len });
         if count < left {
             return count;
         }
@@ -270,10 +284,14 @@ impl Marker {
         count + more
     }
 
-    // The object of the entry on top of the stack, unless that entry's number is below `known`.
+    // The entry on top of the stack, unless its number is below `known` or its words stand on more than one page.
     #[inline]
-    fn top(&self, map: &[Page], known: usize) -> Option<Found> {
-        (known < self.len).then(|| object_at(map, self.stack[self.len - 1].0))
+    fn top(&self, known: usize) -> Option<Entry> {
+        if known >= self.len {
+            return None;
+        }
+        let top = self.stack[self.len - 1];
+        (top.base % 4_096 + 8 * u64::from(top.len) <= 4_096).then_some(top)
     }
 
     // Objects that are read whole: several together where so many wait, and else one after the other.
@@ -299,7 +317,7 @@ impl Marker {
         if self.len <= depth {
             return;
         }
-        let (second, top) = (self.stack[self.len - 2].0, self.stack[self.len - 1].0);
+        let (second, top) = (self.stack[self.len - 2].base, self.stack[self.len - 1].base);
         if second.abs_diff(base) < top.abs_diff(base) {
             self.stack.swap(self.len - 1, self.len - 2);
         }
@@ -307,38 +325,37 @@ impl Marker {
 
     #[inline]
     fn read_top(&mut self, map: &[Page], heap_bytes: u64, memory: &[u64], known: usize, most: u64) -> u64 {
-        let Some(found) = self.top(map, known) else {
+        let Some(top) = self.top(known) else {
             return 0;
         };
-        let len = u64::from(found.len);
-        if len > most.min(512) {
+        let len = u64::from(top.len);
+        if len > most {
             return 0;
         }
         let depth = self.len;
         self.len -= 1;
-        self.mark_object(map, heap_bytes, memory, found.base, found.len);
-        self.current = Some((found.base, found.len));
-        self.bring_nearer(depth, found.base);
+        self.mark_object(map, heap_bytes, memory, top.base, top.len);
+        self.bring_nearer(depth, top.base);
         len
     }
 
     // Takes objects off the stack and reads the first two words of each.
     #[inline]
-    fn begin_objects(&mut self, map: &[Page], memory: &[u64], known: usize, most: u64, begun: &mut [Begun; TOGETHER]) -> usize {
+    fn begin_objects(&mut self, memory: &[u64], known: usize, most: u64, begun: &mut [Begun; TOGETHER]) -> usize {
         let mut left = most;
         for number in 0..TOGETHER {
-            let Some(found) = self.top(map, known) else {
+            let Some(top) = self.top(known) else {
                 return number;
             };
-            let len = u64::from(found.len);
+            let len = u64::from(top.len);
             if len < 2 || len > left {
                 return number;
             }
             left -= len;
             self.len -= 1;
-            let place = ((found.base - START) / 8) as usize;
+            let place = ((top.base - START) / 8) as usize;
             let words = &memory[place..place + 2];
-            begun[number] = Begun { base: found.base, len: found.len, first: words[0], second: words[1] };
+            begun[number] = Begun { base: top.base, len: top.len, first: words[0], second: words[1] };
         }
         TOGETHER
     }
@@ -358,14 +375,13 @@ impl Marker {
         if first | second | rest {
             set(&mut self.carried, ((begun.base - START) / 4_096) as usize);
         }
-        self.current = Some((begun.base, begun.len));
     }
 
     #[inline(never)]
     fn read_together(&mut self, map: &[Page], heap_bytes: u64, memory: &[u64], known: usize, most: u64) -> u64 {
         let room = (ENTRIES - self.len) as u64;
         let mut begun = [Begun::default(); TOGETHER];
-        let count = self.begin_objects(map, memory, known, most.min(512).min(room), &mut begun);
+        let count = self.begin_objects(memory, known, most.min(512).min(room), &mut begun);
         let mut read = 0;
         for one in &begun[..count] {
             self.finish(map, heap_bytes, memory, *one);
@@ -425,13 +441,13 @@ impl Marker {
         Some(page)
     }
 
-    /// The object that is being read, with the number of its next word.
-    pub fn current(&self) -> Option<(u64, u32)> {
+    /// The entry that is being read.
+    pub fn current(&self) -> Option<Entry> {
         self.current
     }
 
     /// Those that wait, the next one last.
-    pub fn waiting(&self) -> &[(u64, u32)] {
+    pub fn waiting(&self) -> &[Entry] {
         &self.stack[..self.len]
     }
 

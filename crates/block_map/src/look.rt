@@ -63,21 +63,6 @@ impl BlockMap {
         None
     }
 
-    /// The object with this base, if it has a cell. It costs least.
-    #[inline(always)]
-    pub fn cell_with_base(&self, base: u64) -> Option<Found>
-        requires base { (f : Found) × (found_in self.now base ≡ Some f) × (f.base ≡ base) }
-        ensures object { IfSome result (λ f. found_in self.now base ≡ Some f) }
-        ensures on_page { IfSome result (λ f. f.base % PAGE_BYTES + WORD_BYTES * f.len ≤ PAGE_BYTES) }
-    {
-        self.laws();
-        let page = page_of(base);
-        if let Some(Page::Cut(block)) = self.made_page(page as usize) {
-            return Some(object_in_block(page as PageNo, block, base));
-        }
-        None
-    }
-
     /// The object with this base. It costs less than a look-up of a word.
     #[inline]
     pub fn object_at(&self, base: u64) -> Found
@@ -187,12 +172,9 @@ fn object_begun(page: PageNo, block: &Block, base: u64) -> Option<Found>
     ensures object { IfSome result (λ f. (found_in_block page block.now base ≡ Some f) × (f.base ≡ base)) }
 {
     let granule = (base % PAGE_BYTES / GRANULE_BYTES) as u32;
-    let Some(cell) = block.cell_from(granule) else {
+    let Some(cell) = block.taken_from(granule) else {
         return None;
     };
-    if !block.is_taken(cell) {
-        return None;
-    }
     Some(Found {
         base,
         len: u32::from(block.class().words()),

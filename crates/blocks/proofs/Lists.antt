@@ -1,7 +1,6 @@
 -- Lists of free cells, and the words that they stand in.
-use Rattle.std.proofs.Common.{◌≡◌, ℕ, ◌+◌, ◌*◌, ◌/◌, ◌%◌, ◌^◌, ◌<◌, ◌≤◌, ◌⊎◌, Bool, true, false, List, [], ◌∷◌, ◌++◌, suc, take, length, get_or, set, replicate, inl, inr, refl, sym, ap, ◌∙◌, subst, ⊎_elim, arith, eq-eqb, length-set, get_or-set_same, get_or-set_other}
-use Rattle.std.specs.Int.{bit_at}
-use Rattle.std.specs.Prelude.{◌≢◌, ◌==◌, MatchBool}
+use Rattle.std.proofs.Common.{◌≡◌, ℕ, ◌+◌, ◌*◌, ◌/◌, ◌<◌, ◌≤◌, ◌⊎◌, Bool, true, false, List, [], ◌∷◌, ◌++◌, suc, take, length, get_or, set, replicate, inl, inr, refl, sym, ap, ◌∙◌, subst, ⊎_elim, arith, eq-eqb, length-set, get_or-set_same, get_or-set_other}
+use Rattle.std.specs.Prelude.{◌≢◌, ◌==◌, if◌then◌else◌, MatchBool}
 use Rattle.std.proofs.lemmas.Bool.{cases_eq, cases_lt, eqb-true, false≢true}
 use Rattle.std.proofs.lemmas.List.{ext_get_or, get_or-replicate, get_or_default, get_or_past, length-replicate, set-set}
 use Rattle.std.proofs.Math.Seq.{take-suc-set}
@@ -12,9 +11,9 @@ use Rattle.words.specs.Classes.{IsSizeClass}
 use Rattle.pages.specs.Memory.{IsWordAddress, word_index, with_word_at}
 use Rattle.blocks.specs.Cells.{Cells, IsCells}
 use Rattle.blocks.specs.declared.list.TheConstants.{LIST_END, UNLISTED}
-use Rattle.blocks.specs.Lists.{cell_start, link_of, ends, goes_on, ChangesFree, ChangesPage, IsFirstOrEnd, IsLinkedFrom, MayBeListed, Pops, HasPage, IsFreeCellOf, IsListed, IsTakenCellOf, Lists}
+use Rattle.blocks.specs.Lists.{cell_start, first_after_put, link_of, ends, goes_on, ChangesFree, ChangesPage, IsFirstOrEnd, IsLinkedFrom, MayBeListed, Pops, HasPage, IsFreeCellOf, IsListed, IsTakenCellOf, Lists}
+use Rattle.blocks.proofs.Begins.{later}
 use Rattle.blocks.proofs.Places.{cells_fit, class_bounds, divided}
-use Rattle.blocks.proofs.Tops.{low_none, top_above, top_inside, top_set, IsLowRest, IsTop}
 
 -- where a list begins
 pub first_free : (link : ℕ → ℕ) (row : List Bool) (first : ℕ) → Lists link row first → first ≢ LIST_END → IsFreeCellOf row first
@@ -98,11 +97,6 @@ cell_address words page class cell is has lt =
 
 in_memory : (words : List ℕ) (page class cell : ℕ) → IsSizeClass class → HasPage words page → cell < PAGE_WORDS / class → word_index (cell_start page class cell) < length words
 in_memory words page class cell is has lt = let f = cell_fits class cell is lt in let b = class_bounds class is in let e = cell_place page class cell in omega arith
-
-later : (class i j : ℕ) → 0 < class → i < j → i * class < j * class
-later class i j some lt =
-    let m : (i + 1) * class ≤ j * class = mul-le-mul_right class (omega arith) in
-    let e : (i + 1) * class ≡ i * class + class = omega arith in omega (arith, m, e)
 
 apart : (page class i j : ℕ) → 0 < class → i ≢ j → word_index (cell_start page class i) ≢ word_index (cell_start page class j)
 apart page class i j some ne same =
@@ -263,51 +257,6 @@ free_page words words' page class row is size h = record {
         let f = cell_fits class i is lt in let b = class_bounds class is in
         ⊎_elim (λ below. omega arith) (λ past. omega arith) out
 
--- ---- the free cells of one word of the row
--- a word has the clear places of the row
-abbrev pub IsClearWord : List Bool → ℕ → ℕ → Type 0
-IsClearWord row j word = (k : ℕ) → k / 64 ≡ j → get_or row k true ≡ (bit_at word (k % 64) == 0)
-
-module _ (row : List Bool) (j word : ℕ) (is : IsClearWord row j word) where
-  pub set_is_free : (i : ℕ) → i < 64 → bit_at word i ≡ 1 → get_or row (64 * j + i) true ≡ false
-  set_is_free i lt one =
-      let e : (64 * j + i) % 64 ≡ i = omega arith in
-      is (64 * j + i) (omega arith) ∙ ap (λ m. bit_at word m == 0) e ∙ ap (λ b. b == 0) one
-
-  pub none_is_taken : (i : ℕ) → i < 64 → bit_at word i ≡ 0 → get_or row (64 * j + i) true ≡ true
-  none_is_taken i lt none =
-      let e : (64 * j + i) % 64 ≡ i = omega arith in
-      is (64 * j + i) (omega arith) ∙ ap (λ m. bit_at word m == 0) e ∙ ap (λ b. b == 0) none
-
-  module _ (link : ℕ → ℕ) (rest to first : ℕ) (l : IsLowRest word rest to) (h : IsLinkedFrom link row (64 * j + to) first) where
-    taken_from : (top : ℕ) → ((m : ℕ) → top ≤ m → m < to → bit_at word m ≡ 0) → (k : ℕ) → 64 * j + top ≤ k → k < 64 * j + to → get_or row k true ≡ true
-    taken_from top none k ge lt =
-        let few = l.few in
-        let e : 64 * j + k % 64 ≡ k = omega arith in
-        ap (λ n. get_or row n true) (sym e) ∙ none_is_taken (k % 64) (omega arith) (none (k % 64) (omega arith) (omega arith))
-
-    -- no free cell is left
-    pub word_end : rest ≡ 0 → IsLinkedFrom link row (64 * j) first
-    word_end none = linked_to link row (64 * j + to) (64 * j) first (omega arith) (λ k ge lt. taken_from 0 (λ m low high. low_none word rest to none l m high) k (omega arith) lt) h
-
-    module _ (top : ℕ) (fits : rest < 2 ^ 64) (t : IsTop rest top) where
-      inside : top < to
-      inside = top_inside rest top fits t word to l
-
-      pub top_free : get_or row (64 * j + top) true ≡ false
-      top_free = set_is_free top t.inside (sym (l.below top inside) ∙ top_set rest top fits t)
-
-      pub down_to : IsLinkedFrom link row (64 * j + top + 1) first
-      down_to = linked_to link row (64 * j + to) (64 * j + top + 1) first (let i = inside in omega arith)
-          (λ k ge lt. taken_from (top + 1) (λ m low high. sym (l.below m high) ∙ top_above rest top fits t m (omega arith)) k (omega arith) lt) h
-
--- its highest free cell comes first
-pub word_more : (words words' : List ℕ) (page class : ℕ) (row : List Bool) (j word rest to first top cell address w : ℕ) → IsSizeClass class → HasPage words page → length row ≡ PAGE_WORDS / class → IsClearWord row j word → IsLowRest word rest to
-    → IsLinkedFrom (link_of words page class) row (64 * j + to) first → rest < 2 ^ 64 → IsTop rest top → cell ≡ 64 * j + top → address ≡ cell_start page class cell → w ≡ first → words' ≡ with_word_at words address w
-    → IsLinkedFrom (link_of words' page class) row (64 * j + top) cell × ChangesFree words words' page class row
-word_more words words' page class row j word rest to first top cell address w is has size clear l h fits t place at says written =
-    rw place (cell_more words words' page class row (64 * j + top) first address w is has size (top_free row j word clear (link_of words page class) rest to first l h top fits t) (down_to row j word clear (link_of words page class) rest to first l h top fits t) (rw place at at) says written)
-
 pub some_cells : (class : ℕ) → IsSizeClass class → 0 < PAGE_WORDS / class
 some_cells class is =
     let b = class_bounds class is in
@@ -346,6 +295,16 @@ pops_size Pops.done = refl
 pops_size (Pops.next {row = row} {first = first} free more) = pops_size more ∙ length-set row first true
 
 -- ---- blocks that may have no list
+pub first_put : (first cell : ℕ) → first ≢ UNLISTED → cell ≡ first_after_put first cell
+first_put first cell ne = by (first == UNLISTED) refl
+  where
+    by : (b : Bool) → (first == UNLISTED) ≡ b → cell ≡ first_after_put first cell
+    by true e = absurd (ne (eqb-true first UNLISTED e))
+    by false e = sym (ap (λ b. if b then UNLISTED else cell) e)
+
+pub first_kept : (first cell : ℕ) → first ≡ UNLISTED → first ≡ first_after_put first cell
+first_kept first cell is = is ∙ sym (ap (λ b. if b then UNLISTED else cell) (eq-eqb first UNLISTED is))
+
 pub listed_if : {L : Type 0} (first : ℕ) → first ≢ UNLISTED → (first ≡ UNLISTED) ⊎ L → L
 listed_if first ne h = ⊎_elim (λ (e : first ≡ UNLISTED). absurd (ne e)) (λ l. l) h
 

@@ -1,22 +1,24 @@
 //! A page that is cut into cells of one class. Contracts see the class, the kind, the row of its cells, in which true is
 //! an allocated cell, and the number of its first free cell.
-ghost use Rattle.std.specs.Prelude.{◌≡◌, ◌+◌, ◌≤◌, ◌*◌, ◌/◌, ◌%◌, ◌<◌, ◌==◌, ◌≢◌, ℕ, true, false};
-ghost use Rattle.std.specs.Prelude.{List, length, replicate, slice_index_or, slice_set, take, MatchOption, MatchBool, IfSome, IfNone};
-ghost use Rattle.words.specs.declared.limits.TheConstants.{PAGE_WORDS, PAGE_BYTES, PAGE_GRANULES, MOST_PAGES, WORD_BYTES};
+ghost use Rattle.std.specs.Prelude.{◌≡◌, ◌+◌, ◌≤◌, ◌*◌, ◌/◌, ◌<◌, ◌==◌, ◌≢◌, ℕ, true, false};
+ghost use Rattle.std.specs.Prelude.{List, length, replicate, slice_set, take, MatchBool, IfSome, IfNone};
+ghost use Rattle.words.specs.declared.limits.TheConstants.{GRANULE_WORDS, PAGE_WORDS, PAGE_BYTES, PAGE_GRANULES, MOST_PAGES};
 ghost use Rattle.words.specs.Bits.{members, IsFullRow, IsEmptyFrom, IsFirstClearFrom, IsFirstFrom};
 ghost use Rattle.words.specs.Classes.{IsSizeClass};
 ghost use Rattle.pages.specs.Memory.{with_word_at};
-ghost use Rattle.blocks.specs.Cells.{IsCells, IsInCell, IsLeftOver};
+ghost use Rattle.blocks.specs.Cells.{IsCells};
 ghost use Rattle.blocks.specs.Lists.{cell_start, first_after_put, link_of, ChangesFree, ChangesPage, HasPage, IsFirstOrEnd, IsFreeCellOf, IsListed, IsTakenCellOf, MayBeListed, Pops};
+ghost use Rattle.blocks.specs.Begins.{IsFreeWord};
 ghost use Rattle.blocks.specs.Sweeps.{SweepsCells};
 ghost use Rattle.blocks.specs.declared.list.TheConstants.{LIST_END, UNLISTED};
 
-use crate::list::{LIST_END, UNLISTED, link_all, link_free, start_of};
-use crate::reciprocal::{WHOLE, reciprocal_of};
+use crate::list::{LIST_END, UNLISTED, link_all, start_of};
+use crate::reciprocal::reciprocal_of;
+use crate::starts::{begins_in, granule_at};
 use pages::Memory;
 use std::marker::Model;
-use words::limits::{GRANULE_BYTES, PAGE_BYTES};
-use words::{BitRow, CellRow, Class, Kind, PageNo};
+use words::limits::{GRANULE_BYTES, GRANULE_WORDS, PAGE_BYTES, PAGE_GRANULES};
+use words::{BitRow, Class, GranuleRow, Kind, PageNo};
 
 /// A page cut for one class and kind, with the cells that are allocated.
 #[derive(Drop)]
@@ -25,24 +27,26 @@ pub struct Block {
     kind: Kind,
     first: u16,
     pub(crate) reciprocal: u32,
-    pub(crate) taken: CellRow,
+    // The granules at which its allocated cells begin.
+    pub(crate) granules: GranuleRow,
+    // By it what stands on a page has 64 bytes, so that its place is a shift of the page's number, and lies in one line of the cache.
+    _line: u64,
 }
 
 impl Model for Block {
-    ghost use Rattle.std.specs.Prelude.{◌≡◌, ◌/◌, length};
-    ghost use Rattle.words.specs.declared.limits.TheConstants.{PAGE_WORDS};
     ghost use Rattle.words.specs.Classes.{IsSizeClass};
+    ghost use Rattle.blocks.specs.Begins.{begun, AreBegins};
     ghost use Rattle.blocks.specs.Cells.{Cells};
     ghost use Rattle.blocks.specs.Reciprocals.{IsReciprocal};
 
     ghost Value = { Cells };
 
-    ghost view = { λ b. record { class = b.class; kind = b.kind; taken = b.taken; first = b.first } };
+    ghost view = { λ b. record { class = b.class; kind = b.kind; taken = begun b.granules b.class; first = b.first } };
 
-    ghost invariant = { λ b. IsSizeClass b.class × (length b.taken ≡ PAGE_WORDS / b.class) × IsReciprocal b.class b.reciprocal };
+    ghost invariant = { λ b. IsSizeClass b.class × AreBegins b.granules b.class × IsReciprocal b.class b.reciprocal };
 }
 
-#[tactic(auto, using(crate::proofs::Places::places))]
+#[tactic(auto, using(crate::proofs::Places::places, crate::proofs::Begins::cells_begun))]
 impl Block {
     /// A page cut for a class and a kind, with all its cells free and in their order.
     pub fn new(memory: &mut Memory, page: PageNo, class: Class, kind: Kind) -> Block
@@ -61,7 +65,8 @@ impl Block {
             class,
             kind,
             reciprocal: reciprocal_of(class),
-            taken: CellRow::new(cells),
+            granules: GranuleRow::new(),
+            _line: 0,
             first: 0,
         }
     }
@@ -88,42 +93,7 @@ impl Block {
     pub fn cells(&self) -> u16
         ensures { result ≡ length self.now.taken }
     {
-        self.taken.len()
-    }
-
-    /// The number of the cell that the byte at an address of the page would have, if there were cells up to the page's end. It
-    /// multiplies by the class's reciprocal, since a division by a number that isn't constant is slow.
-    #[inline]
-    pub fn cell_under(&self, address: u64) -> u16
-        ensures cell { result ≡ address % PAGE_BYTES / (WORD_BYTES * self.now.class) }
-        ensures cells { IsCells self.now }
-    {
-        let granule = (address % PAGE_BYTES / GRANULE_BYTES) as u32;
-        (granule * self.reciprocal / WHOLE) as u16
-    }
-
-    /// The cell that has the byte at an address of the page, and `None` exactly for the words left over at the page's
-    /// end.
-    #[inline]
-    pub fn cell_of(&self, address: u64) -> Option<u16>
-        ensures cell { MatchOption result (IsLeftOver self.now.class (address % PAGE_BYTES)) (λ i. IsInCell self.now.class i (address % PAGE_BYTES)) }
-        ensures cells { IsCells self.now }
-    {
-        let cell = self.cell_under(address);
-        if cell < self.taken.len() {
-            Some(cell)
-        } else {
-            None
-        }
-    }
-
-    /// Whether a cell is allocated.
-    #[inline]
-    pub fn is_taken(&self, cell: u16) -> bool
-        requires { cell < length self.now.taken }
-        ensures { result ≡ slice_index_or self.now.taken cell false }
-    {
-        self.taken.is_set(cell)
+        self.class.cells()
     }
 
     /// Whether every cell is allocated.
@@ -131,14 +101,24 @@ impl Block {
     pub fn is_full(&self) -> bool
         ensures { MatchBool result (IsFullRow self.now.taken) ((i : ℕ) × IsFirstClearFrom self.now.taken 0 i) }
     {
-        self.taken.is_full()
+        // Its clauses tell of its cells.
+        let _class = self.class();
+        for j in 0..4 {
+            if self.free_word(j) != 0 {
+                return false;
+            }
+        }
+        true
     }
 
-    /// The lowest allocated cell from a cell on.
-    pub fn next_taken(&self, from: u16) -> Option<u16>
-        ensures { MatchOption result (IsEmptyFrom self.now.taken from) (λ i. IsFirstFrom self.now.taken from i) }
+    /// The granules of the word j of its row at which a free cell begins.
+    #[inline]
+    pub(crate) fn free_word(&self, j: usize) -> u64
+        requires { j < 4 }
+        ensures free { IsFreeWord self.now.taken (self.now.class / GRANULE_WORDS) j result }
+        ensures cells { IsCells self.now }
     {
-        self.taken.next(from)
+        begins_in(self.class, j) & !self.granules.word(j)
     }
 
     /// Whether the list of its free cells has come to its end: where the list stands, each cell is allocated then.
@@ -176,7 +156,7 @@ impl Block {
             return None;
         }
         self.first = memory.read(start_of(self.class, page, cell)) as u16;
-        self.taken.set(cell);
+        self.granules.set(granule_at(self.class, cell));
         Some(cell)
     }
 
@@ -220,7 +200,7 @@ impl Block {
         ensures listed { MayBeListed memory.new page self.new }
     {
         memory.write(start_of(self.class, page, cell), u64::from(self.first));
-        self.taken.clear(cell);
+        self.granules.clear(granule_at(self.class, cell));
         if self.first != UNLISTED {
             self.first = cell;
         }
@@ -235,13 +215,9 @@ impl Block {
         ensures listed { (words : List ℕ) → MayBeListed words page self.new }
         ensures full { MatchBool (self.new.first == LIST_END) (IsFullRow self.new.taken) (self.new.first ≡ UNLISTED) }
     {
-        let live = self.marked_cells(page, marks);
-        self.taken.keep(&live);
-        self.first = if self.taken.is_full() {
-            LIST_END
-        } else {
-            UNLISTED
-        };
+        let first = PAGE_GRANULES as usize * page as usize;
+        self.granules.keep(marks, first);
+        self.first = if self.is_full() { LIST_END } else { UNLISTED };
     }
 
     /// Makes its free cells a list in their order.
@@ -257,7 +233,7 @@ impl Block {
         ensures memory { ChangesFree memory.old memory.new page self.old.class self.old.taken }
         ensures changes { ChangesPage memory.old memory.new page }
     {
-        self.first = link_free(memory, self.class, page, &self.taken);
+        self.first = self.link_free(memory, page);
     }
 
     /// How many cells are allocated.
@@ -265,13 +241,13 @@ impl Block {
         ensures count { result ≡ members self.now.taken }
         ensures cells { IsCells self.now }
     {
-        self.taken.count()
+        self.granules.count()
     }
 
     /// Whether no cell is allocated.
     pub fn is_empty(&self) -> bool
         ensures { MatchBool result (IsEmptyFrom self.now.taken 0) ((i : ℕ) × IsFirstFrom self.now.taken 0 i) }
     {
-        self.taken.is_empty()
+        self.granules.is_empty()
     }
 }

@@ -7,10 +7,12 @@
 #![tactic(auto)]
 
 mod block;
+mod cells;
 mod large;
+mod linking;
 mod list;
 mod reciprocal;
-mod sweep;
+mod starts;
 
 pub use block::Block;
 pub use large::LargeHead;

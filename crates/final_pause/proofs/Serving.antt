@@ -1,5 +1,5 @@
 -- A helper at work goes on: what it reads is reached, and what it owes is awaited.
-use Rattle.std.proofs.Common.{◌≡◌, ℕ, ◌+◌, ◌*◌, ◌<◌, ◌≤◌, Bool, List, true, Contains, Some, None, length, refl, sym, ap, subst, ◌∙◌, inl, inr, ⊎_elim, arith}
+use Rattle.std.proofs.Common.{◌≡◌, ℕ, ◌+◌, ◌*◌, ◌<◌, ◌≤◌, Bool, List, true, Contains, Some, None, length, refl, sym, ap, subst, ◌∙◌, inl, inr, ⊎_elim, arith, get_or}
 use Rattle.std.specs.Prelude.{◌⊎◌}
 use Rattle.std.proofs.lemmas.Option.{same_Some}
 use Rattle.std.proofs.lemmas.Bool.{cases_lt}
@@ -13,7 +13,7 @@ use Rattle.mark_bits.specs.Claims.{doubled, knows, HasPart}
 use Rattle.block_map.specs.declared.found.Found.{Found}
 use Rattle.block_map.specs.Objects.{IsMap}
 use Rattle.pages.specs.Memory.{IsWordAddress}
-use Rattle.marker.specs.Marking.{IsMarked, word_address}
+use Rattle.marker.specs.Marking.{IsMarked, entries, word_address}
 use Rattle.marker.specs.Closure.{word}
 use Rattle.block_map.specs.Walks.{IsNextObject, IsNoObject}
 use Rattle.marker.specs.Growth.{IsStrayPage}
@@ -285,7 +285,7 @@ module _ (p : PauseView) where
     entry_more place number e h f o b k m = run_more place number f e.next f.len (h f o b k m)
 
     pub entries_more : (place n : ℕ) → AreEntriesRead p v c place n → AreEntriesRead p w d place n
-    entries_more place n h i e lt = entry_more place i _ (h i e lt)
+    entries_more place n h i e lt = entry_more place i (get_or (entries p.marker) i e) (h i e lt)
 
     pub words_more : (place number low high : ℕ) → AreWordsRead p v c place number low high → AreWordsRead p w d place number low high
     words_more place number low high h f o b m turn i lt from below = word_more p v w c d more carried f i (h f o b m turn i lt from below)

@@ -46,6 +46,10 @@ pub record IsObjectOf (p : PauseView) (f : Found) : Type 0 where
   pub word : ℕ
   pub points : found p word ≡ Some f
 
+-- the helper's place among those of its round
+abbrev pub place_of : Helper → ℕ
+place_of h = h.place
+
 -- the granules that the helper won
 abbrev pub won_of : Helper → List ℕ
 won_of h = (view h.claimer).won

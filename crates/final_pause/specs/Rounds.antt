@@ -12,6 +12,10 @@ use Rattle.final_pause.specs.Helping.{IsReadyPause}
 use Rattle.final_pause.specs.Serving.{IsServing, HasServed, IsHired}
 use Rattle.final_pause.specs.Gathering.{HasGathered}
 
+-- how many helpers the round was dealt to
+abbrev pub helpers_of : Round → ℕ
+helpers_of r = r.helpers
+
 -- what the helpers of a round share, over this marker, map and memory
 abbrev pub round_view : Round → Marking → List PageState → List ℕ → List ℕ → PauseView
 round_view r marker map memory roots = record { table = r.table; marker = marker; map = map; memory = memory; roots = roots; helpers = r.helpers }

@@ -4,7 +4,7 @@ ghost use Rattle.words.specs.declared.limits.TheConstants.{MOST_PAGES};
 ghost use Rattle.mark_bits.specs.Tables.{view, granules_of, IsOf};
 ghost use Rattle.mark_bits.specs.Claims.{knows, LearnsMore};
 ghost use Rattle.block_map.specs.Objects.{IsPlaced};
-ghost use Rattle.final_pause.specs.Helping.{QueuesObject};
+ghost use Rattle.final_pause.specs.Helping.{place_of, QueuesObject};
 
 use crate::gate::Gate;
 use crate::waiting::Waiting;
@@ -32,7 +32,7 @@ pub struct Helper {
 impl Helper {
     /// Its place among the helpers of its round.
     pub fn place(&self) -> usize
-        ensures { result ≡ self.now.place }
+        ensures { result ≡ place_of self.now }
     {
         self.place
     }

@@ -10,7 +10,8 @@ ghost use Rattle.marker.specs.Invariant.{AreRootsMarked};
 ghost use Rattle.marker.specs.Growth.{Traces};
 ghost use Rattle.final_pause.specs.Serving.{IsServing, HasServed};
 ghost use Rattle.final_pause.specs.Pauses.{pause_view};
-ghost use Rattle.final_pause.specs.Rounds.{round_view, IsRound, IsFresh, AreServing, AreServed, DirtiesNew};
+ghost use Rattle.final_pause.specs.Helping.{place_of};
+ghost use Rattle.final_pause.specs.Rounds.{helpers_of, round_view, IsRound, IsFresh, AreServing, AreServed, DirtiesNew};
 
 use crate::crew::{gather, hire};
 use crate::gate::Open;
@@ -56,7 +57,7 @@ impl Round {
         ensures size { IfOk result (λ d. vec_len d.1 ≡ helpers.number) }
         ensures round { IfOk result (λ d. (memory roots : List ℕ) → length memory ≡ PAGE_WORDS * length map.now → IsRound (round_view d.0 marker.now map.now memory roots) d.0) }
         ensures crew { IfOk result (λ d. (memory roots : List ℕ) → length memory ≡ PAGE_WORDS * length map.now → AreServing (round_view d.0 marker.now map.now memory roots) 0 d.1.items) }
-        ensures number { IfOk result (λ d. d.0.helpers ≡ helpers.number) }
+        ensures number { IfOk result (λ d. helpers_of d.0 ≡ helpers.number) }
         ensures fresh { IfOk result (λ d. IsFresh (length map.now) d.0 d.1.items) }
     {
         marker.laws();
@@ -80,7 +81,7 @@ impl Round {
 
     /// How many helpers the round was dealt to.
     pub fn helpers(&self) -> u8
-        ensures { result ≡ self.now.helpers }
+        ensures { result ≡ helpers_of self.now }
     {
         self.helpers
     }
@@ -105,7 +106,7 @@ impl Round {
     /// read of objects that it was the first to mark. It takes no memory.
     pub fn help(&self, marker: &Marker, graph: Graph, most: u64, helper: &mut Helper) -> u64
         requires { IsServing (round_view self.now marker.now graph.map.now graph.memory.now graph.roots.now) helper.old }
-        ensures served { HasServed (round_view self.now marker.now graph.entry.map.now graph.entry.memory.now graph.entry.roots.now) helper.old.place helper.new }
+        ensures served { HasServed (round_view self.now marker.now graph.entry.map.now graph.entry.memory.now graph.entry.roots.now) (place_of helper.old) helper.new }
         ensures few { result ≤ most }
     {
         helper.left = most;
@@ -117,7 +118,7 @@ impl Round {
     /// marked objects alone.
     pub fn gather(self, marker: &mut Marker, graph: Graph, crew: Vec<Helper>)
         requires round { IsRound (round_view self marker.old graph.map.now graph.memory.now graph.roots.now) self }
-        requires all { vec_len crew ≡ self.helpers }
+        requires all { vec_len crew ≡ helpers_of self }
         requires served { AreServed (round_view self marker.old graph.map.now graph.memory.now graph.roots.now) 0 crew.items }
         ensures traces { Traces (found_in graph.entry.map.now) graph.entry.memory.now graph.entry.roots.now marker.old marker.new }
         ensures roots { AreRootsMarked (found_in graph.entry.map.now) graph.entry.roots.now marker.new }

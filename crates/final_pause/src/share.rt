@@ -3,7 +3,7 @@ ghost use Rattle.std.specs.Prelude.{◌≡◌, ℕ, ◌+◌, ◌<◌, ◌≤◌,
 ghost use Rattle.mark_bits.specs.Tables.{view, granules_of};
 ghost use Rattle.words.specs.Layout.{granule, page_of};
 ghost use Rattle.words.specs.declared.limits.TheConstants.{FIRST_ADDRESS};
-ghost use Rattle.block_map.specs.FoundIn.{found_in};
+ghost use Rattle.block_map.specs.FoundIn.{found_in, IsLawful};
 ghost use Rattle.marker.specs.Marking.{IsOutside, bytes_of, word_address};
 ghost use Rattle.marker.specs.Growth.{TellsStray};
 ghost use Rattle.final_pause.specs.Helping.{IsReadyPause, IsObjectOf, IsHelperOf, Visits, VisitsAll, ReadsWords};
@@ -17,7 +17,7 @@ use block_map::{BlockMap, Found};
 use mark_bits::MarkTable;
 use marker::Marker;
 use pages::{Memory, Words};
-use words::limits::{FIRST_ADDRESS, PAGE_BYTES, WORD_BYTES};
+use words::limits::{FIRST_ADDRESS, GRANULE_BYTES, PAGE_BYTES, WORD_BYTES};
 use words::{PageNo, granule_of, page_of};
 
 // An object is left to its pages that has more than this part of the words that the helper may still read.
@@ -66,6 +66,22 @@ impl<'a> Pause<'a> {
         word.wrapping_sub(FIRST_ADDRESS) < bytes
     }
 
+    // The object that a word in the heap's range points into. Most such words are the base of one in a cell, which costs less to find.
+    #[inline]
+    fn target(&self, word: u64) -> Option<Found>
+        requires ready { IsReadyPause (pause_view self.now) }
+        requires inside { (FIRST_ADDRESS ≤ word) × (word < FIRST_ADDRESS + bytes_of self.now.marker.now) }
+        ensures found { result ≡ found_in self.now.map.now word }
+        ensures lawful { IsLawful self.now.map.now }
+    {
+        if word % GRANULE_BYTES == 0 {
+            if let Some(found) = self.map.base_in_cell(word) {
+                return Some(found);
+            }
+        }
+        self.map.find(word)
+    }
+
     // Marks the object that a word points into. Where this helper is the first to, the object is its own to read. Answers
     // whether the word is stray: it lies in the heap's range and points into no object. Most words lie outside, and the loop over words
     // is to hold that test alone.
@@ -97,7 +113,7 @@ impl<'a> Pause<'a> {
         ensures visits { Visits (pause_view self.now) word helper.old helper.new }
         ensures stray { TellsStray (found_in self.now.map.now) (bytes_of self.now.marker.now) (word ∷ []) result }
     {
-        let Some(found) = self.map.find(word) else {
+        let Some(found) = self.target(word) else {
             return true;
         };
         let granule = self.granule(found);

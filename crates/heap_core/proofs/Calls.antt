@@ -19,7 +19,7 @@ use Rattle.heap_spec.specs.Steps.{Acts, Calls, register, with_new, with_register
 use Rattle.words.specs.Bits.{Has}
 use Rattle.block_map.specs.Objects.{IsInside, IsPlaced}
 use Rattle.words.specs.declared.limits.TheConstants.{FIRST_ADDRESS}
-use Rattle.words.specs.Layout.{granule}
+use Rattle.words.specs.Layout.{granule, page_of}
 use Rattle.heap_spec.specs.Heap.{with_at, without, without_at}
 use Rattle.heap_spec.specs.Room.{length_of}
 use Rattle.std.specs.Prelude.{Bool}
@@ -54,7 +54,7 @@ use Rattle.object_space.specs.Many.{HasNoneReady, LeavesPages}
 use Rattle.object_space.specs.Rooms.{HasRoomAt, HasNoRoom}
 use Rattle.heap_core.proofs.Lookups.{finds}
 use Rattle.heap_core.proofs.Forgotten.{forgotten_added, forgotten_removed, forgotten_swept}
-use Rattle.heap_core.proofs.Roots.{allocation_event, not_done, dirty_event, refused_clean, core_of, attached, stands_set, none_some, frees_event, frees_reply}
+use Rattle.heap_core.proofs.Roots.{allocation_event, not_done, dirty_event, refused_clean, stored_dirty, core_of, attached, stands_set, none_some, frees_event, frees_reply}
 
 -- where a request goes in the heap that is stood for
 limit_is : (roots : RootSet) (t : Store) (y : Cycle) {ls : List Link} (s : Heap) (n : ℕ) (placement : Placement) → StandsFor (core_of roots t y ls) s → placement_of roots.request_words n ≡ Some placement → placement_of s.request_words n ≡ Some placement
@@ -137,12 +137,13 @@ allocated_step roots roots' t t' y y' {ls = ls} slot d n base kind placement m a
     )
 
 pub allocated : (roots roots' : RootSet) (t0 t t' : Store) (y y' : Cycle) {ls : List Link} (slot d n base : ℕ) (kind : Kind) (placement : Placement) (m : HeapMutator) → HasMutator roots slot m → placement_of roots.request_words n ≡ Some placement
-    → Sweeps t0 y.marker.marks t → HasRoomAt t placement kind base → (gains : Gains t placement kind base t') → SetsWord roots slot d base roots' → NotesObject y.is_marking base y.marker y'.marker → (IsMarked y.marker gains.object.base → ⊥) → y'.is_marking ≡ y.is_marking → y'.count ≡ y.count → y'.needs_full ≡ y.needs_full
+    → Sweeps t0 y.marker.marks t → HasRoomAt t placement kind base → (gains : Gains t placement kind base t') → SetsWord roots slot d base roots' → NotesObject y.is_marking base y.marker y'.marker → (IsMarked y.marker gains.object.base → ⊥) → y'.is_marking ≡ y.is_marking → y'.count ≡ y.count → y'.reads ≡ y.reads → y'.needs_full ≡ y.needs_full
     → HasNoneReady t0 placement kind ⊎ LeavesPages t0 t' → IsCall (core_of roots t0 y ls) (Mutator slot (Alloc d n kind)) Done (core_of roots' t' y' ls)
-allocated roots roots' t0 t t' y y' {ls = ls} slot d n base kind placement m at is sweeps room gains sets notes unmarked phase count needs cuts = record {
+allocated roots roots' t0 t t' y y' {ls = ls} slot d n base kind placement m at is sweeps room gains sets notes unmarked phase count reads needs cuts = record {
   steps = λ s h. allocated_step roots roots' t t' y y' slot d n base kind placement m at is room gains sets notes s (swept_stands roots t0 t y sweeps s h);
   phase = phase;
   count = count;
+  reads = reads;
   freed = λ h. absurd (no_free (frees_event (Mutator slot (Alloc d n kind)) Done h));
   needs_full = λ _. needs;
   idle = λ is f there marked. let now = kept_cases (is_kept t'.pending y'.marker.marks) (found_in t'.states) f.base f there in was_there is f now.0 now.1 (subst (λ (m : Marking). IsMarked m f.base) (notes.idle is) marked);
@@ -165,6 +166,7 @@ allocated roots roots' t0 t t' y y' {ls = ls} slot d n base kind placement m at 
   full = λ h. absurd (not_done (Mutator slot (Alloc d n kind)) h);
   cuts = λ p k h. cut_in_need p k (allocation_event (core_of roots t0 y ls) (Mutator slot (Alloc d n kind)) Done p k h);
   written = λ p h. absurd (clean (dirty_event (core_of roots t0 y ls) (Mutator slot (Alloc d n kind)) Done p h));
+  stored = λ b w h. absurd (clean (dirty_event (core_of roots t0 y ls) (Mutator slot (Alloc d n kind)) Done (page_of b) (stored_dirty (core_of roots t0 y ls) (Mutator slot (Alloc d n kind)) Done b w h)));
   roots_alone = λ not. absurd (not tt);
 }
   where
@@ -233,6 +235,7 @@ full roots t0 t y {ls = ls} slot d n kind placement m at is sweeps swept none = 
       (s, Calls.acts (attached roots t0 y s slot m h at) (Acts.full (limit_is roots t y s n placement now is) (none s (all_kept (is_kept t.pending y.marker.marks) t s (λ f. nothing_pending t.pending y.marker.marks f (swept f.page)) now.store))), now);
   phase = refl;
   count = refl;
+  reads = refl;
   marks = λ f there marked. inl marked;
   stays = λ f there marked. marked;
   came = λ is f there none. absurd (none_some f (sym none ∙ sym (sweeps.same.same f.base) ∙ there));
@@ -246,6 +249,7 @@ full roots t0 t y {ls = ls} slot d n kind placement m at is sweeps swept none = 
   full = λ h. swept;
   cuts = λ p k h. absurd (refused_done (allocation_event (core_of roots t0 y ls) (Mutator slot (Alloc d n kind)) (Refused Full) p k h).4);
   written = λ p h. absurd (refused_clean (core_of roots t0 y ls) (Mutator slot (Alloc d n kind)) Full p h);
+  stored = λ b w h. absurd (refused_clean (core_of roots t0 y ls) (Mutator slot (Alloc d n kind)) Full (page_of b) (stored_dirty (core_of roots t0 y ls) (Mutator slot (Alloc d n kind)) (Refused Full) b w h));
   roots_alone = λ not. absurd (not tt);
 }
 
@@ -298,10 +302,10 @@ module _ (t t' : Store) (y y' : Cycle) (f : Found) (map : IsMap (length t.states
   was_kept g there none = ⊎_elim (λ r. none_some g (sym (kept_left.before g.base r) ∙ there)) (λ not. none_some g (sym none ∙ kept_left.others g.base not ∙ there)) (read_or_not g.base f)
 
 freed_along : (roots : RootSet) (t t1 : Store) (words : List ℕ) (y y' : Cycle) {ls : List Link} (slot r : ℕ) (m : HeapMutator) (f : Found) → IsLawful t.states → HasMutator roots slot m → restrict (is_kept t.pending y.marker.marks) (found_in t.states) (register m r) ≡ Some f → f.base ≡ register m r
-    → Loses t f t1 → IsFreed f.base y.marker y'.marker → y'.is_marking ≡ y.is_marking → y'.count ≡ y.count → IsLawful t1.states
+    → Loses t f t1 → IsFreed f.base y.marker y'.marker → y'.is_marking ≡ y.is_marking → y'.count ≡ y.count → y'.reads ≡ y.reads → IsLawful t1.states
     → ((k : ℕ) → slice_index words k ≡ cond (clears (kept_in t1.states t1.pending y'.marker.marks) ls k) 0 (slice_index t1.words k))
     → y'.needs_full ≡ true → IsCall (core_of roots t y ls) (Mutator slot (Free r)) Done (core_of roots (record t1 { words = words }) y' (filter (stays (kept_in t1.states t1.pending y'.marker.marks)) ls))
-freed_along roots t t' words y y' {ls = ls} slot r m f lawful at is base loses frees phase count lawful' changed needs = record {
+freed_along roots t t' words y y' {ls = ls} slot r m f lawful at is base loses frees phase count reads lawful' changed needs = record {
   freed = λ _. needs;
   needs_full = λ not. absurd (not Frees.freed);
   idle = λ marking g now marked. (still_there t t' y y' f lawful.map there loses others g now, sym (others (granule g.base) (left g now)) ∙ marked);
@@ -324,6 +328,7 @@ freed_along roots t t' words y y' {ls = ls} slot r m f lawful at is base loses f
       );
   phase = phase;
   count = count;
+  reads = reads;
   marks = λ g now marked. inl (sym (others (granule g.base) (left g now)) ∙ marked);
   stays = λ g now marked. others (granule g.base) (left g now) ∙ marked;
   came = λ marking g now none. absurd (was_kept t t' y y' f lawful.map there loses others g now none);
@@ -338,6 +343,7 @@ freed_along roots t t' words y y' {ls = ls} slot r m f lawful at is base loses f
   full = λ h. absurd (not_done (Mutator slot (Free r)) h);
   cuts = λ p k h. absurd (no_allocation (allocation_event (core_of roots t y ls) (Mutator slot (Free r)) Done p k h));
   written = λ p h. absurd (clean (dirty_event (core_of roots t y ls) (Mutator slot (Free r)) Done p h));
+  stored = λ b w h. absurd (clean (dirty_event (core_of roots t y ls) (Mutator slot (Free r)) Done (page_of b) (stored_dirty (core_of roots t y ls) (Mutator slot (Free r)) Done b w h)));
   roots_alone = λ not. absurd (not tt);
 }
   where
@@ -357,13 +363,13 @@ freed_along roots t t' words y y' {ls = ls} slot r m f lawful at is base loses f
     left g now = apart_left t t' y y' f lawful.map there loses others g.base g (kept_cases (is_kept t'.pending y'.marker.marks) (found_in t'.states) g.base g now).0
 
 pub freed : (roots : RootSet) (t t1 t' : Store) (y y' : Cycle) {ls : List Link} (ls' : List Link) (slot r : ℕ) (m : HeapMutator) (f : Found) → IsLawful t.states → HasMutator roots slot m → restrict (is_kept t.pending y.marker.marks) (found_in t.states) (register m r) ≡ Some f → f.base ≡ register m r
-    → Loses t f t1 → IsFreed f.base y.marker y'.marker → y'.is_marking ≡ y.is_marking → y'.count ≡ y.count → IsLawful t1.states
+    → Loses t f t1 → IsFreed f.base y.marker y'.marker → y'.is_marking ≡ y.is_marking → y'.count ≡ y.count → y'.reads ≡ y.reads → IsLawful t1.states
     → TakesAlong (kept_in t1.states t1.pending y'.marker.marks) ls t1 t' → ls' ≡ filter (stays (kept_in t1.states t1.pending y'.marker.marks)) ls → y'.needs_full ≡ true
     → IsCall (core_of roots t y ls) (Mutator slot (Free r)) Done (core_of roots t' y' ls')
-freed roots t t1 t' y y' {ls = ls} ls' slot r m f lawful at is base loses frees phase count lawful' along same needs =
+freed roots t t1 t' y y' {ls = ls} ls' slot r m f lawful at is base loses frees phase count reads lawful' along same needs =
     subst (λ x. IsCall (core_of roots t y ls) (Mutator slot (Free r)) Done (core_of roots x y' ls')) (sym (beside_is t1 t' along.beside))
     (subst (λ row. IsCall (core_of roots t y ls) (Mutator slot (Free r)) Done (core_of roots (record t1 { words = t'.words }) y' row)) (sym same)
-    (freed_along roots t t1 t'.words y y' slot r m f lawful at is base loses frees phase count lawful' along.words needs))
+    (freed_along roots t t1 t'.words y y' slot r m f lawful at is base loses frees phase count reads lawful' along.words needs))
 
 pub inside : (keep : Found → Bool) (t : Store) (s : Heap) (slot r : ℕ) (m : HeapMutator) (f : Found) → IsLawful t.states → restrict keep (found_in t.states) (register m r) ≡ Some f → f.base ≢ register m r → Stores keep t s → Acts s slot m (Free r) (Refused NotBase) s
 inside keep t s slot r m f lawful is ne stores = let found = finds keep t s (register m r) f lawful stores is in Acts.free_inside found.1 ne

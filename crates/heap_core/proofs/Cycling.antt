@@ -9,7 +9,7 @@ use Rattle.block_map.specs.Objects.{IsMap}
 use Rattle.heap_spec.specs.Heap.{Heap}
 use Rattle.heap_spec.specs.Layout.{word_end}
 use Rattle.marker.specs.Closure.{AreClosed}
-use Rattle.marker.specs.Marking.{Marking, IsBlank, IsDone}
+use Rattle.marker.specs.Marking.{Marking, AreMarksObjects, IsBlank, IsDone}
 use Rattle.marker.specs.Growth.{Traces}
 use Rattle.marker.specs.Mutations.{BeginsPartial}
 use Rattle.marker.specs.Work.{dirty_pages, newly_pages, entry_words}
@@ -28,6 +28,7 @@ use Rattle.object_space.proofs.Kept.{kept_same, nothing_pending}
 use Rattle.object_space.proofs.Allocations.{shows_same}
 use Rattle.heap_core.proofs.Calls.{swept_stands}
 use Rattle.heap_core.specs.Collections.{BeginsCycle, BeginsPartialCycle, MarksOn, ClosesMarks, EndsCycle, CollectsAll, SweepsOne}
+use Rattle.heap_core.proofs.Covering.{reads_kept}
 use Rattle.heap_core.proofs.Collecting.{grows_within, all_marked, ends, collects, has_stray, reached_alone}
 
 none_in : (w : ℕ) → Contains [] w → ⊥
@@ -56,6 +57,7 @@ begins c t m sweeps swept blank = record {
   roots = refl;
   phase = refl;
   count = refl;
+  reads = refl;
   blank = blank;
   swept = swept;
 }
@@ -67,6 +69,7 @@ begins_partial c t m sweeps swept needs begins = record {
   roots = refl;
   phase = refl;
   count = refl;
+  reads = refl;
   needs_full = needs;
   marking = begins;
   swept = swept;
@@ -122,6 +125,7 @@ ends_cycle c t1 t' m count reads n ls' map swept x cells pending done pages trac
       forgets = λ s h. ends c map swept s h t1 t'.words _ n x map' along.words;
       cells = record { less = cells.less; small = cells.small };
       pending = pending;
+      carried = traces.carried;
       strays = λ s h p has. ⊎_elim (λ old. inl old) (λ o. inr (has_stray c map swept s h (IsMarkedBirth s c.cycle.marker) (λ base inside. inside) pages p o)) (traces.strays p has);
       reads = few;
     }))
@@ -130,9 +134,10 @@ ends_cycle c t1 t' m count reads n ls' map swept x cells pending done pages trac
 pub collects_all : (c : CoreContents) (t : Store) (dropped : Marking) (t1 t' : Store) (m : Marking) (count : ℕ) (reads : CountedReads) (n : ℕ) (ls' : List Link) → IsMap (length t.states) (found_in t.states) → Sweeps c.store c.cycle.marker.marks t → IsSwept t → IsBlank (length t.states) dropped
     → ForgetsUnreached t (root_words_of c.roots) dropped n m.marks t1 → IsSwept t1 → IsDone m
     → Traces (found_in t.states) t.words (root_words_of c.roots) dropped m → count ≡ (c.cycle.count + 1) % word_end
-    → IsMap (length t1.states) (found_in t1.states) → TakesAlong (kept_in t1.states t1.pending m.marks) c.links t1 t' → ls' ≡ filter (stays (kept_in t1.states t1.pending m.marks)) c.links → reads.all ≡ c.cycle.reads.all + reads.last
+    → IsMap (length t1.states) (found_in t1.states) → TakesAlong (kept_in t1.states t1.pending m.marks) c.links t1 t' → ls' ≡ filter (stays (kept_in t1.states t1.pending m.marks)) c.links → AreMarksObjects (found_in t1.states) m
+    → reads.last ≤ PAGE_WORDS * (dirty_pages dropped + newly_pages (found_in t.states) dropped m) + entry_words (found_in t.states) dropped → reads.all ≡ c.cycle.reads.all + reads.last
     → CollectsAll c n (record { roots = c.roots; store = t'; cycle = record { marker = m; is_marking = false; needs_full = false; count = count; reads = reads }; links = ls' })
-collects_all c t dropped t1 t' m count reads n ls' map sweeps swept blank x swept' done traces counts map' along same all =
+collects_all c t dropped t1 t' m count reads n ls' map sweeps swept blank x swept' done traces counts map' along same objects few all =
     subst (λ z. CollectsAll c n (record { roots = c.roots; store = z; cycle = record { marker = m; is_marking = false; needs_full = false; count = count; reads = reads }; links = ls' })) (sym (beside_is t1 t' along.beside))
     (subst (λ row. CollectsAll c n (record { roots = c.roots; store = record t1 { words = t'.words }; cycle = record { marker = m; is_marking = false; needs_full = false; count = count; reads = reads }; links = row })) (sym same)
     (record {
@@ -144,6 +149,7 @@ collects_all c t dropped t1 t' m count reads n ls' map sweeps swept blank x swep
           (λ old. absurd (false≢true (sym (blank.carried.clear p) ∙ old)))
           (λ o. has_stray begun map swept s (stands s h) (λ _. ⊥) (reached_alone begun map swept s (stands s h) blank) blank.dirty.size p o)
           (traces.strays p has);
+      reads = reads_kept t t1 (root_words_of c.roots) dropped m (length t.states) n reads.last map map' blank x swept' objects traces.marks_len few;
     }))
   where
     begun : CoreContents

@@ -158,7 +158,7 @@ module _ (roots : RootSet) (t : Store) (y : Cycle) (ls : List Link) (slot a v : 
       (subst (λ x. objects_of (core_of roots t y ls) x ≡ Some f) (sym at_address) is)
       (ap (λ x. record t { words = with_word_at t.words x v }) (sym at_address) ∙ ap (λ w. record t { words = with_word_at t.words (address m2 0 0) w }) (sym has_word))
       (subst (λ x. NotesWrite x y.marker y'.marker) (sym at_address) (notes y a inside))
-      refl refl refl
+      refl refl refl refl
 
   back : r4 ≡ roots
   back =

@@ -26,3 +26,4 @@ pub mod Many
 pub mod Unreached
 pub mod FreedWords
 pub mod Sharing
+pub mod Covering

@@ -18,7 +18,7 @@ use Rattle.object_space.specs.Store.{Store}
 use Rattle.marker.specs.Marking.{IsConsistent}
 use Rattle.marker.proofs.MarkWord.{markable}
 use Rattle.heap_core.specs.CoreContents.{CoreContents, Cycle, IsCore}
-use Rattle.heap_core.specs.MutatorCalls.{IsCall, MakesDirty}
+use Rattle.heap_core.specs.MutatorCalls.{IsCall, MakesDirty, StoresAt}
 use Rattle.heap_core.specs.Beside.{NotesWrite}
 use Rattle.std.specs.Prelude.{Bool, IfSome, IfNone, Option}
 use Rattle.object_space.specs.Kept.{restrict, is_kept}
@@ -100,11 +100,12 @@ stores_step roots t t' y y' {ls = ls} slot a n r m f lawful long at aligned is w
 
 pub stores : (roots : RootSet) (t t' : Store) (y y' : Cycle) {ls : List Link} (slot a n r : ℕ) (m : HeapMutator) (f : Found) → IsLawful t.states → length t.words ≡ PAGE_WORDS * length t.states → HasMutator roots slot m → address m a n % 8 ≡ 0 → restrict (is_kept t.pending y.marker.marks) (found_in t.states) (address m a n) ≡ Some f
     → t' ≡ record t { words = with_word_at t.words (address m a n) (register m r) }
-    → NotesWrite (address m a n) y.marker y'.marker → y'.is_marking ≡ y.is_marking → y'.count ≡ y.count → y'.needs_full ≡ y.needs_full → IsCall (core_of roots t y ls) (Mutator slot (StoreCall a n r)) Done (core_of roots t' y' ls)
-stores roots t t' y y' {ls = ls} slot a n r m f lawful long at aligned is writes notes phase count needs = record {
+    → NotesWrite (address m a n) y.marker y'.marker → y'.is_marking ≡ y.is_marking → y'.count ≡ y.count → y'.reads ≡ y.reads → y'.needs_full ≡ y.needs_full → IsCall (core_of roots t y ls) (Mutator slot (StoreCall a n r)) Done (core_of roots t' y' ls)
+stores roots t t' y y' {ls = ls} slot a n r m f lawful long at aligned is writes notes phase count reads needs = record {
   steps = stores_step roots t t' y y' slot a n r m f lawful long at aligned is writes notes.marks;
   phase = phase;
   count = count;
+  reads = reads;
   freed = λ h. absurd (no_free (frees_event (Mutator slot (StoreCall a n r)) Done h));
   needs_full = λ _. needs;
   idle = λ is g there marked. (sym (same g.base) ∙ there, subst (λ ms. Has ms (granule g.base)) notes.marks marked);
@@ -122,6 +123,7 @@ stores roots t t' y y' {ls = ls} slot a n r m f lawful long at aligned is writes
   forgotten = forgotten_same (core_of roots t y ls) (core_of roots t' y' ls) (ap (λ (x : Store). x.states) writes) (ap (λ (x : Store). x.pending) writes) notes.marks;
   full = λ h. absurd (not_done (Mutator slot (StoreCall a n r)) h);
   cuts = λ placement kind is. inr (record { free = ap (λ (x : Store). x.free) writes; pending = ap (λ (x : Store). x.pending) writes });
+  stored = λ b w h. wrote_word b w h;
   roots_alone = λ not. absurd (not tt);
 }
   where
@@ -134,6 +136,13 @@ stores roots t t' y y' {ls = ls} slot a n r m f lawful long at aligned is writes
     -- the slot's mutator is the one that stored
     wrote : (p : ℕ) → MakesDirty (core_of roots t y ls) (Mutator slot (StoreCall a n r)) Done p → Has y'.marker.dirty p
     wrote p (MakesDirty.store other here same) = subst (Has y'.marker.dirty) (ap (λ (x : HeapMutator). page_of (address x a n)) (mutator_one (sym at ∙ here)) ∙ sym same) notes.written
+
+    wrote_word : (b w : ℕ) → StoresAt (core_of roots t y ls) (Mutator slot (StoreCall a n r)) Done b w → t' ≡ record t { words = with_word_at t.words b w }
+    wrote_word b w (StoresAt.store other here is_at is_word) =
+        writes
+        ∙ ap (λ (x : HeapMutator). record t { words = with_word_at t.words (address x a n) (register x r) }) (mutator_one (sym at ∙ here))
+        ∙ ap (λ (i : ℕ). record t { words = with_word_at t.words i (register other r) }) (sym is_at)
+        ∙ ap (λ (v : ℕ). record t { words = with_word_at t.words b v }) (sym is_word)
 
     same : (b : ℕ) → restrict (is_kept t'.pending y'.marker.marks) (found_in t'.states) b ≡ restrict (is_kept t.pending y.marker.marks) (found_in t.states) b
     same b = ap (λ (x : Store). restrict (is_kept x.pending y'.marker.marks) (found_in x.states) b) writes ∙ ap (λ ms. restrict (is_kept t.pending ms) (found_in t.states) b) notes.marks

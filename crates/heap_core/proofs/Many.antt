@@ -123,7 +123,7 @@ module _ (roots : RootSet) (y : Cycle) (ls : List Link) (slot into words : ℕ) 
 
     calls : IsCall (core_of r t y ls) (Mutator slot (Alloc into words kind)) Done (core_of (with_base base) t' y ls)
     calls = allocated r (with_base base) t a.ready t' y y slot into words base kind placement ready.holder ready.attached (ap (λ n. placement_of n words) ready.limit ∙ is) a.sweeps a.room a.gains (ready.sets base) (notes base)
-        (unmarked_new a.ready t' y placement kind base traced.objects a.gains) refl refl refl (inr leaves)
+        (unmarked_new a.ready t' y placement kind base traced.objects a.gains) refl refl refl refl (inr leaves)
 
     stays_legal : IsLegalCore (core_of (with_base base) t' y ls)
     stays_legal = legal_called (core_of r t y ls) (core_of (with_base base) t' y ls) legal (traced_object a.ready t' y y placement kind base traced a.gains (notes base) refl refl)

@@ -3,6 +3,7 @@ use Rattle.std.proofs.Common.{List, inl, inr, ◌≡◌, ℕ, set, Some, None, r
 use Rattle.std.specs.Prelude.{slice_get}
 use Rattle.words.specs.declared.class.Kind.{Kind}
 use Rattle.words.specs.declared.class.Placement.{Placement}
+use Rattle.words.specs.Layout.{page_of}
 use Rattle.words.specs.Placing.{placement_of}
 use Rattle.words.specs.declared.refusal.Refusal.{Refusal}
 use Rattle.words.specs.declared.refusal.Refusal.TheVariants.{NoSlot, Full}
@@ -21,7 +22,7 @@ use Rattle.roots.specs.Roots.{RootSet, HasMutator, HasNoMutator, with_word, with
 use Rattle.roots.proofs.Steps.{set_mutators}
 use Rattle.object_space.specs.Store.{Store}
 use Rattle.heap_core.specs.CoreContents.{CoreContents, Cycle}
-use Rattle.heap_core.specs.MutatorCalls.{IsAllocation, IsCall, IsFullAlloc, Frees, MakesDirty, ReachesPages}
+use Rattle.heap_core.specs.MutatorCalls.{IsAllocation, IsCall, IsFullAlloc, Frees, MakesDirty, ReachesPages, StoresAt}
 use Rattle.object_space.specs.Kept.{is_kept}
 use Rattle.links.specs.Named.{AreNamed}
 use Rattle.object_space.specs.Stores.{Stores}
@@ -63,6 +64,10 @@ dirty_reply c event reply p (MakesDirty.store m at same) = refl
 pub dirty_event : (c : CoreContents) (event : Event) (reply : Reply) (p : ℕ) → MakesDirty c event reply p → (slot a n r : ℕ) × (event ≡ Mutator slot (StoreCall a n r))
 dirty_event c event reply p (MakesDirty.store {slot = slot} {a = a} {n = n} {r = r} m at same) = (slot, a, n, r, refl)
 
+-- a store that was done makes the page of its address dirty
+pub stored_dirty : (c : CoreContents) (event : Event) (reply : Reply) (at w : ℕ) → StoresAt c event reply at w → MakesDirty c event reply (page_of at)
+stored_dirty c event reply at w (StoresAt.store m has here word) = MakesDirty.store m has (ap page_of here)
+
 -- an allocation that was done is one
 pub allocation_event : (c : CoreContents) (event : Event) (reply : Reply) (placement : Placement) (kind : Kind) → IsAllocation c event reply placement kind
     → (slot d n : ℕ) × (event ≡ Mutator slot (Alloc d n kind)) × (reply ≡ Done) × (placement_of c.roots.request_words n ≡ Some placement)
@@ -82,6 +87,7 @@ changes_beside c roots ls event reply not_full not_dirty need steps = record {
   steps = steps;
   phase = refl;
   count = refl;
+  reads = refl;
   freed = λ f. absurd (need f);
   needs_full = λ _. refl;
   idle = λ is f there marked. (there, marked);
@@ -99,6 +105,7 @@ changes_beside c roots ls event reply not_full not_dirty need steps = record {
   forgotten = forgotten_same c (record c { roots = roots; links = ls }) refl refl refl;
   full = λ h. absurd (not_full h);
   cuts = λ placement kind is. inr (record { free = refl; pending = refl });
+  stored = λ at w h. absurd (not_dirty (page_of at) (stored_dirty c event reply at w h));
   roots_alone = λ not. (refl, refl);
 }
 

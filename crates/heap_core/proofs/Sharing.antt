@@ -8,6 +8,7 @@ use Rattle.std.proofs.Math.ListN.{get_or-append}
 use Rattle.std.proofs.Math.Seq.{get_or-append_seam}
 use Rattle.final_pause.specs.declared.helper.Helper.{Helper}
 use Rattle.final_pause.specs.Pauses.{PauseView}
+use Rattle.final_pause.specs.Helping.{place_of}
 use Rattle.final_pause.specs.Serving.{IsServing, HasServed}
 use Rattle.final_pause.specs.Rounds.{AreServing, AreServed}
 use Rattle.final_pause.specs.declared.round.Round.{Round}
@@ -53,7 +54,7 @@ each_one P n h is i d lt =
 
 module _ (p : PauseView) where
   abbrev At : ℕ → Helper → Type 0
-  At n h = IsServing p h × (h.place ≡ n)
+  At n h = IsServing p h × (place_of h ≡ n)
 
   of_each : (from : ℕ) (crew : List Helper) → Each At from crew → AreServing p from crew
   of_each from crew all = record { each = λ i d lt. (all i d lt).0; numbered = λ i d lt. (all i d lt).1 }
@@ -65,10 +66,10 @@ module _ (p : PauseView) where
   pub serving_front : (from : ℕ) (front back crew : List Helper) → crew ≡ front ++ back → AreServing p from crew → AreServing p from front
   serving_front from front back crew is s = of_each from front (each_front At from front back (to_each from (front ++ back) (subst (AreServing p from) is s)))
 
-  pub serving_last : (from : ℕ) (front crew : List Helper) (h : Helper) → crew ≡ front ++ h ∷ [] → AreServing p from crew → IsServing p h × (h.place ≡ from + length front)
+  pub serving_last : (from : ℕ) (front crew : List Helper) (h : Helper) → crew ≡ front ++ h ∷ [] → AreServing p from crew → IsServing p h × (place_of h ≡ from + length front)
   serving_last from front crew h is s = each_last At from front h (to_each from (front ++ h ∷ []) (subst (AreServing p from) is s))
 
-  pub serving_one : (h : Helper) (n : ℕ) (crew : List Helper) → crew ≡ h ∷ [] → IsServing p h → h.place ≡ n → AreServing p n crew
+  pub serving_one : (h : Helper) (n : ℕ) (crew : List Helper) → crew ≡ h ∷ [] → IsServing p h → place_of h ≡ n → AreServing p n crew
   serving_one h n crew is s place = subst (AreServing p n) (sym is) (of_each n (h ∷ []) (each_one At n h (s, place)))
 
   pub serving_append : (from next : ℕ) (front back crew : List Helper) → next ≡ from + length front → crew ≡ front ++ back → AreServing p from front → AreServing p next back → AreServing p from crew

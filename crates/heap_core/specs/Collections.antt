@@ -1,5 +1,5 @@
 -- What calls of the collector do to a core.
-use Rattle.std.specs.Prelude.{◌≡◌, ℕ, ◌+◌, ◌*◌, ◌%◌, ◌<◌, ◌≤◌, Bool, true, false, List, [], ◌∷◌, length, count_by, Contains, Some, Result, Ok, Err, if◌then◌else◌, ◌⊎◌}
+use Rattle.std.specs.Prelude.{◌≡◌, ℕ, ◌+◌, ◌*◌, ◌%◌, ◌<◌, ◌≤◌, Bool, true, false, List, [], ◌∷◌, length, count_by, Contains, Option, Some, Result, Ok, Err, if◌then◌else◌, ◌⊎◌}
 use Rattle.words.specs.Bits.{Has}
 use Rattle.words.specs.declared.limits.TheConstants.{PAGE_WORDS}
 use Rattle.words.specs.declared.refusal.Refusal.{Refusal}
@@ -11,12 +11,12 @@ use Rattle.heap_spec.specs.Heap.{Heap, Object, HasObject}
 use Rattle.heap_spec.specs.Closure.{Closure}
 use Rattle.heap_spec.specs.Cycles.{TakesOut, CollectsFully}
 use Rattle.block_map.specs.declared.found.Found.{Found}
-use Rattle.marker.specs.Marking.{IsMarked, IsBlank, IsEmpty, IsClean, IsDone, StaysDirty}
+use Rattle.marker.specs.Marking.{Marking, IsMarked, IsBlank, IsEmpty, IsClean, IsDone, StaysDirty}
 use Rattle.marker.specs.Invariant.{AreRootsMarked}
 use Rattle.marker.specs.Growth.{MarksWords, Traces}
 use Rattle.marker.specs.Entries.{Takes, TakesOff}
 use Rattle.marker.specs.Retracing.{RetracesLowest}
-use Rattle.marker.specs.Work.{dirty_pages, newly_pages, entry_words}
+use Rattle.marker.specs.Work.{dirty_pages, newly_pages, entry_words, span}
 use Rattle.marker.specs.Mutations.{BeginsPartial}
 use Rattle.heap_view.specs.Shows.{IsMarkedBirth}
 use Rattle.roots.specs.Roots.{root_words_of}
@@ -40,12 +40,13 @@ IsAlwaysGranted (Ok x) P = P x
 IsAlwaysGranted (Err refusal) P = ⊥
 
 -- A cycle begins: the core is marking, with no mark, no dirty or carried page, no entry, and no pending page, and no full cycle
--- is needed after it.
+-- is needed after it. No collection is counted, and no read.
 pub record BeginsCycle (old new : CoreContents) : Type 0 where
   pub stands : (s : Heap) → StandsFor old s → StandsFor new s
   pub roots : new.roots ≡ old.roots
   pub phase : new.cycle.is_marking ≡ true
   pub count : new.cycle.count ≡ old.cycle.count
+  pub reads : new.cycle.reads ≡ old.cycle.reads
   pub needs_full : new.cycle.needs_full ≡ false
   pub blank : IsBlank (length old.store.states) new.cycle.marker
   pub swept : IsSwept new.store
@@ -61,12 +62,13 @@ IsGrantedPartial old (Ok x) new P = (old.cycle.is_marking ≡ false) × (old.cyc
 IsGrantedPartial old (Err refusal) new P = RefusesPartial old refusal × (new ≡ old)
 
 -- A cycle begins with the marks of the last one: the core is marking, the marks and the entries are what they were, dirty are the
--- pages that were dirty or carried, none is carried, and no page is pending.
+-- pages that were dirty or carried, none is carried, and no page is pending. No collection is counted, and no read.
 pub record BeginsPartialCycle (old new : CoreContents) : Type 0 where
   pub stands : (s : Heap) → StandsFor old s → StandsFor new s
   pub roots : new.roots ≡ old.roots
   pub phase : new.cycle.is_marking ≡ true
   pub count : new.cycle.count ≡ old.cycle.count
+  pub reads : new.cycle.reads ≡ old.cycle.reads
   pub needs_full : new.cycle.needs_full ≡ false
   pub marking : BeginsPartial old.cycle.marker new.cycle.marker
   pub swept : IsSwept new.store
@@ -134,8 +136,8 @@ pub record EndsMarking (old new : CoreContents) : Type 0 where
   pub all_reads : new.cycle.reads.all ≡ old.cycle.reads.all + new.cycle.reads.last
 
 -- A cycle ends: exactly the objects outside of the closure of the marks go, so many, the small ones only when their pages are
--- swept. The pending pages are then the blocks with an unmarked allocated object. Each carried page was carried before, or a
--- stray word of an object of that closure stands on it. Heap words were read at most as many as the pages have that were dirty,
+-- swept. The pending pages are then the blocks with an unmarked allocated object. The carried pages still are, and each other
+-- one has a stray word of an object of that closure. Heap words were read at most as many as the pages have that were dirty,
 -- for each newly marked object as the pages have that it covers, and as the entries had left.
 pub record EndsCycle (old : CoreContents) (n : ℕ) (new : CoreContents) : Type 0 where
   pub ends : EndsMarking old new
@@ -143,17 +145,29 @@ pub record EndsCycle (old : CoreContents) (n : ℕ) (new : CoreContents) : Type 
   pub forgets : (s : Heap) → StandsFor old s → (s' : Heap) × ForgetsOutside s (IsMarkedBirth s old.cycle.marker) (Count n) s' × StandsFor new s'
   pub cells : KeepsCells old.store new.store
   pub pending : IsPendingAfter new.store.states new.cycle.marker.marks new.store.pending
+  pub carried : (p : ℕ) → Has old.cycle.marker.carried p → Has new.cycle.marker.carried p
   pub strays : (s : Heap) → StandsFor old s → (p : ℕ) → Has new.cycle.marker.carried p → Has old.cycle.marker.carried p ⊎ HasStray s (IsMarkedBirth s old.cycle.marker) p
   pub reads : new.cycle.reads.last ≤ PAGE_WORDS * (dirty_pages old.cycle.marker + newly_pages (found_in old.store.states) old.cycle.marker new.cycle.marker) + entry_words (found_in old.store.states) old.cycle.marker
 
+-- the sum over marked objects of the pages that each covers, in a row of marks that begins at the granule k
+unfoldable pub marked_from : (ℕ → Option Found) → ℕ → List Bool → ℕ
+marked_from found k [] = 0
+marked_from found k (true ∷ row) = span found k + marked_from found (k + 1) row
+marked_from found k (false ∷ row) = marked_from found (k + 1) row
+
+-- the sum over all marked objects of the pages that each covers
+abbrev pub marked_pages : (ℕ → Option Found) → Marking → ℕ
+marked_pages found m = marked_from found 0 m.marks
+
 -- A full collection: exactly the objects that are not reached go, so many, and no page is pending. On each carried page a stray
--- word of a reached object stands.
+-- word of a reached object stands. Heap words were read at most as many as for each object that is left the pages have that it covers.
 pub record CollectsAll (old : CoreContents) (n : ℕ) (new : CoreContents) : Type 0 where
   pub ends : EndsMarking old new
   pub needs_full : new.cycle.needs_full ≡ false
   pub swept : IsSwept new.store
   pub collects : (s : Heap) → StandsFor old s → (s' : Heap) × CollectsFully s (Count n) s' × StandsFor new s'
   pub strays : (s : Heap) → StandsFor old s → (p : ℕ) → Has new.cycle.marker.carried p → HasStray s (λ _. ⊥) p
+  pub reads : new.cycle.reads.last ≤ PAGE_WORDS * marked_pages (found_in new.store.states) new.cycle.marker
 
 -- One page was swept if one was pending: its unmarked objects are gone, no other page has changed, and one fewer is pending,
 -- none of them new. Else nothing has changed. The core stands for what it stood for.

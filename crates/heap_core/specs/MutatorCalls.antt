@@ -15,6 +15,7 @@ use Rattle.heap_spec.specs.declared.reply.Reply.TheVariants.{Done, Refused}
 use Rattle.heap_spec.specs.Heap.{Mutator as HeapMutator}
 use Rattle.heap_spec.specs.Replies.{IsStep}
 use Rattle.heap_spec.specs.Steps.{address, register}
+use Rattle.pages.specs.Memory.{with_word_at}
 use Rattle.block_map.specs.declared.found.Found.{Found}
 use Rattle.marker.specs.Marking.{IsMarked}
 use Rattle.roots.specs.Roots.{HasMutator}
@@ -26,6 +27,10 @@ use Rattle.heap_core.specs.Standing.{StandsFor, IsForgotten, objects_of}
 -- the page that an event with this reply makes dirty: that of a store that was done
 pub data MakesDirty (c : CoreContents) : Event → Reply → ℕ → Type 0 where
   store : {slot a n r p : ℕ} (m : HeapMutator) → HasMutator c.roots slot m → p ≡ page_of (address m a n) → MakesDirty c (Mutator slot (Store a n r)) Done p
+
+-- the event with this reply is a store that was done, of this word at this address
+pub data StoresAt (c : CoreContents) : Event → Reply → ℕ → ℕ → Type 0 where
+  store : {slot a n r at w : ℕ} (m : HeapMutator) → HasMutator c.roots slot m → at ≡ address m a n → w ≡ register m r → StoresAt c (Mutator slot (Store a n r)) Done at w
 
 -- the call with this reply reaches the pages: a store, an allocation or a free that was done, or an allocation with no place
 abbrev pub CallReachesPages : Call → Reply → Type 0
@@ -81,18 +86,19 @@ MaySweep c Sweep p = ⊥
 MaySweep c Collect p = ⊥
 MaySweep c Number p = ⊥
 
--- A call of a mutator is a step of the heap. It leaves the phase and the count as they are, and the work of the marker too,
+-- A call of a mutator is a step of the heap. It leaves the phase, the count and the reads as they are, and the work of the marker too,
 -- but for its own part of it: no object that is there before and after is newly marked or loses its mark, an object that
 -- comes while a cycle is marking is marked, and while none is what is marked was there and was marked. Of the pages exactly
 -- the one that it has stored to becomes dirty. Exactly a free that was done makes that a full cycle is needed. No page
 -- becomes pending, few calls sweep, and an allocation for which there was no place has left none pending. The forgotten
 -- objects are those of before whose pages are still pending. An allocation takes free pages, or sweeps others, only where no
--- page of its class and kind has a free cell and needs no sweep: else the free pages and the pending ones stay. Unless it
--- reaches the pages it changes nothing but the roots.
+-- page of its class and kind has a free cell and needs no sweep: else the free pages and the pending ones stay. A store writes its
+-- word, and changes nothing else of the store. Unless it reaches the pages a call changes nothing but the roots.
 pub record IsCall (old : CoreContents) (event : Event) (reply : Reply) (new : CoreContents) : Type 0 where
   pub steps : IsStep (StandsFor old) event reply (StandsFor new)
   pub phase : new.cycle.is_marking ≡ old.cycle.is_marking
   pub count : new.cycle.count ≡ old.cycle.count
+  pub reads : new.cycle.reads ≡ old.cycle.reads
   pub freed : Frees event reply → new.cycle.needs_full ≡ true
   pub needs_full : (Frees event reply → ⊥) → new.cycle.needs_full ≡ old.cycle.needs_full
   pub marks : (f : Found) → objects_of new f.base ≡ Some f → IsMarked new.cycle.marker f.base → IsMarked old.cycle.marker f.base ⊎ (objects_of old f.base ≡ None)
@@ -110,4 +116,5 @@ pub record IsCall (old : CoreContents) (event : Event) (reply : Reply) (new : Co
   pub forgotten : (w : ℕ) (f : Found) → IsForgotten new w f ↔ (IsForgotten old w f × Has new.store.pending f.page)
   pub full : IsFullAlloc event reply → IsSwept new.store
   pub cuts : (placement : Placement) (kind : Kind) → IsAllocation old event reply placement kind → HasNoneReady old.store placement kind ⊎ LeavesPages old.store new.store
+  pub stored : (at w : ℕ) → StoresAt old event reply at w → new.store ≡ record old.store { words = with_word_at old.store.words at w }
   pub roots_alone : (ReachesPages event reply → ⊥) → (new.store ≡ old.store) × (new.cycle ≡ old.cycle)

@@ -5,7 +5,7 @@ use Rattle.marker.specs.Marking.{IsEmpty}
 use Rattle.final_pause.specs.declared.helper.Helper.{Helper}
 use Rattle.final_pause.specs.declared.round.Round.{Round}
 use Rattle.final_pause.specs.Pauses.{PauseView}
-use Rattle.final_pause.specs.Rounds.{round_view, IsRound, IsFresh, AreServing, AreServed, DirtiesNew}
+use Rattle.final_pause.specs.Rounds.{helpers_of, round_view, IsRound, IsFresh, AreServing, AreServed, DirtiesNew}
 use Rattle.heap_core.specs.CoreContents.{CoreContents}
 use Rattle.heap_core.specs.Collections.{MarksOn}
 
@@ -29,8 +29,8 @@ pub record IsSharing (s : Sharing) (most : ℕ) : Type 0 where
   pub round : IsRound (core_view s.core s.round) s.round
   pub serving : AreServing (core_view s.core s.round) s.from s.crew
   pub served : s.is_done ≡ true → AreServed (core_view s.core s.round) s.from s.crew
-  pub inside : s.from + length s.crew ≤ s.round.helpers
-  pub room : s.round.helpers ≤ s.from + most
+  pub inside : s.from + length s.crew ≤ helpers_of s.round
+  pub room : helpers_of s.round ≤ s.from + most
 
 -- they are shares of one round
 pub record IsSameRound (s t : Sharing) : Type 0 where
@@ -42,7 +42,7 @@ pub record IsDealt (c : CoreContents) (helpers : ℕ) (s : Sharing) : Type 0 whe
   pub core : s.core ≡ c
   pub from : s.from ≡ 0
   pub size : length s.crew ≡ helpers
-  pub number : s.round.helpers ≡ helpers
+  pub number : helpers_of s.round ≡ helpers
   pub fresh : IsFresh (length c.store.states) s.round s.crew
   pub undone : s.is_done ≡ false
 
@@ -69,7 +69,7 @@ pub record AreDone (old new : Sharing) : Type 0 where
 
 -- they are all shares of the round
 abbrev pub AreAll : Sharing → Type 0
-AreAll s = (s.from ≡ 0) × (length s.crew ≡ s.round.helpers)
+AreAll s = (s.from ≡ 0) × (length s.crew ≡ helpers_of s.round)
 
 -- Why a round isn't gathered, and what is left: not all of its shares are there, and nothing has changed; or all are, and done, and the
 -- core is still known elsewhere.

@@ -9,6 +9,14 @@ use Rattle.lazy_sweep.specs.Store.{Agree, HasObjects, Store}
 use Rattle.lazy_sweep.specs.Sweeps.{Sweeps, SweepsPage}
 use Rattle.lazy_sweep.specs.declared.table.PageTable.{PageTable}
 
+-- the row of the pages that are still to be swept
+abbrev pub pending_of : PageTable → List Bool
+pending_of t = t.pending
+
+-- the rows of these pages by class and kind
+abbrev pub waiting_of : PageTable → List (List Bool)
+waiting_of t = t.waiting
+
 -- The pages of a new table: each is free, and none is ready or pending.
 pub record IsNewTable (t : PageTable) (pages : ℕ) : Type 0 where
   pub pool : AreAllFree t.pool pages

@@ -10,6 +10,7 @@ ghost use Rattle.block_map.specs.Changes.{IsCleared, IsUncut};
 ghost use Rattle.block_map.specs.FoundIn.{found_in, IsLawful};
 ghost use Rattle.block_map.specs.States.{free, span_of, state_at, IsBlockFor, IsCut, IsSpanSet};
 ghost use Rattle.lazy_sweep.specs.AvailableRows.{row_of, IsBitSet};
+ghost use Rattle.lazy_sweep.specs.Sound.{pending_of, waiting_of};
 
 mod sweep;
 mod sweep_for;
@@ -58,7 +59,7 @@ impl PageTable {
 
     /// How many pages are pending. Words of the row that have none are passed over.
     pub fn count_pending(&self) -> u32
-        ensures { result ≡ members self.now.pending }
+        ensures { result ≡ members (pending_of self.now) }
     {
         self.pending.count()
     }
@@ -66,8 +67,8 @@ impl PageTable {
     /// Whether a page is pending.
     #[inline]
     pub fn is_pending(&self, page: PageNo) -> bool
-        requires { page < length self.now.pending }
-        ensures { result ≡ slice_index_or self.now.pending page false }
+        requires { page < length (pending_of self.now) }
+        ensures { result ≡ slice_index_or (pending_of self.now) page false }
     {
         self.pending.is_set(page as usize)
     }
@@ -79,7 +80,7 @@ impl PageTable {
         requires block { IsBlockFor (state_at self.old.map page) class kind }
         requires rows { AreExactRows self.old }
         ensures rows { AreExactRows self.new }
-        ensures pending { self.new.pending ≡ slice_set self.old.pending page true }
+        ensures pending { pending_of self.new ≡ slice_set (pending_of self.old) page true }
         ensures pool { self.new.pool ≡ self.old.pool }
         ensures map { self.new.map ≡ self.old.map }
     {
@@ -96,15 +97,15 @@ impl PageTable {
         requires cut { IsCut (state_at self.old.map page) }
         requires size { length self.old.pool ≡ length self.old.map }
         requires listed { page < length (row_of self.old.ready class kind) }
-        requires awaited { page < length (row_of self.old.waiting class kind) }
-        requires row { page < length self.old.pending }
+        requires awaited { page < length (row_of (waiting_of self.old) class kind) }
+        requires row { page < length (pending_of self.old) }
         ensures given { IsFilled self.old.pool self.new.pool page 1 true }
         ensures states { IsSpanSet self.old.map self.new.map page (span_of (state_at self.old.map page)) (λ _. free) }
         ensures cleared { IsCleared (found_in self.old.map) (found_in self.new.map) (page_start page) (page_start (page + span_of (state_at self.old.map page))) }
         ensures uncut { IsUncut page (state_at self.old.map page) (found_in self.old.map) (found_in self.new.map) }
         ensures left { IsBitSet self.old.ready self.new.ready class kind page false }
-        ensures awaited { IsBitSet self.old.waiting self.new.waiting class kind page false }
-        ensures row { self.new.pending ≡ slice_set self.old.pending page false }
+        ensures awaited { IsBitSet (waiting_of self.old) (waiting_of self.new) class kind page false }
+        ensures row { pending_of self.new ≡ slice_set (pending_of self.old) page false }
         ensures lawful { IsLawful self.new.map }
     {
         self.map.uncut(page);

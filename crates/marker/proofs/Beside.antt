@@ -1,10 +1,11 @@
 -- Marking while others write.
-use Rattle.std.proofs.Common.{◌≡◌, ℕ, ◌+◌, ◌*◌, ◌<◌, ◌≤◌, Bool, true, false, List, [], ◌∷◌, length, get_or, Contains, Option, Some, refl, sym, ap, ◌∙◌, subst, inl, inr, ⊎_elim, arith}
+use Rattle.std.proofs.Common.{◌≡◌, ℕ, ◌+◌, ◌*◌, ◌<◌, ◌≤◌, Bool, true, false, List, [], ◌∷◌, length, map, get_or, Contains, Option, Some, refl, sym, ap, ◌∙◌, subst, inl, inr, ⊎_elim, arith}
+use Rattle.std.specs.List.{range_with_len}
 use Rattle.std.proofs.lemmas.Bool.{cases_Bool, cases_eq, false≢true}
 use Rattle.std.proofs.lemmas.List.{ext_get_or}
 use Rattle.std.proofs.lemmas.List.FromFn.{length-map-range_with_len, get_or-map-range_with_len}
 use Rattle.words.specs.declared.class.Kind.TheVariants.{Normal}
-use Rattle.words.specs.declared.limits.TheConstants.{PAGE_BYTES}
+use Rattle.words.specs.declared.limits.TheConstants.{PAGE_BYTES, WORD_BYTES}
 use Rattle.words.specs.Bits.{Has}
 use Rattle.words.specs.Layout.{page_of}
 use Rattle.pages.specs.Memory.{word_index, word_at}
@@ -224,6 +225,16 @@ still_words found words moments seen f first n page still is normal fits w one =
     ∙ e.2
     ∙ still.same e.0 e.1 f is normal (first + k) (omega arith) (one (first + k) (omega arith) (omega arith))
     ∙ sym (get_or-map-range_with_len (λ i. word_at words (word_address f i)) first n k (first + k) 0 below refl))
+
+-- It is said of an object by its base alone.
+pub row_at : (found : ℕ → Option Found) (moments : List (List ℕ)) (f g : Found) (first n bytes : ℕ) (old new : Marking) → f.base ≡ g.base
+    → MarksRow found moments f first n bytes (page_of (word_address f first)) old new → MarksRow found moments g first n bytes (page_of (word_address g first)) old new
+row_at found moments f g first n bytes old new same r = record {
+  seen = r.seen;
+  woven = r.woven;
+  marks = subst (λ (b : ℕ). MarksWords found old (map (λ i. word_at r.seen (b + WORD_BYTES * i)) (range_with_len first n)) (with_carried new old.carried)) same r.marks;
+  carries = subst (λ (b : ℕ). CarriesPage found bytes (map (λ i. word_at r.seen (b + WORD_BYTES * i)) (range_with_len first n)) (page_of (b + WORD_BYTES * first)) old.carried new.carried) same r.carries;
+}
 
 pub row_marks : (found : ℕ → Option Found) (words : List ℕ) (moments : List (List ℕ)) (f : Found) (first n bytes at page : ℕ) (old new : Marking) → IsStill found words moments page → found f.base ≡ Some f → f.kind ≡ Normal → first + n ≤ f.len → ((i : ℕ) → first ≤ i → i < first + n → page_of (word_address f i) ≡ page)
     → MarksRow found moments f first n bytes at old new → MarksWords found old (words_from words f first n) (with_carried new old.carried)

@@ -19,7 +19,10 @@ use Rattle.marker.proofs.Growing.{below_refl}
 same_entry : (a b : Entry) → (a ≡ b) ⊎ (a ≡ b → ⊥)
 same_entry a b =
     ⊎_elim
-    (λ (x : a.base ≡ b.base). ⊎_elim (λ (y : a.next ≡ b.next). inl (λ i. record { base = x i; next = y i })) (λ n. inr (λ e. n (ap (λ (z : Entry). z.next) e))) (cases_eq a.next b.next))
+    (λ (x : a.base ≡ b.base).
+    ⊎_elim
+    (λ (y : a.next ≡ b.next). ⊎_elim (λ (l : a.len ≡ b.len). inl (λ i. record { base = x i; next = y i; len = l i })) (λ n. inr (λ e. n (ap (λ (z : Entry). z.len) e))) (cases_eq a.len b.len))
+    (λ n. inr (λ e. n (ap (λ (z : Entry). z.next) e))) (cases_eq a.next b.next))
     (λ n. inr (λ e. n (ap (λ (z : Entry). z.base) e))) (cases_eq a.base b.base)
 
 pub is_current : (o : Option Entry) (e : Entry) → (o ≡ Some e) ⊎ (o ≡ Some e → ⊥)

@@ -119,7 +119,7 @@ module _ (pages : ℕ) (found : ℕ → Option Found) (map : IsMap pages found) 
 
     -- and then it was read to its end
     abbrev last : Entry
-    last = record { base = f.base; next = f.len }
+    last = record { base = f.base; next = f.len; len = f.len }
 
     abbrev ends : Marking
     ends = with_current (with_stack b (lower ++ waiting ++ pushes.upper_new)) last
@@ -138,7 +138,7 @@ module _ (pages : ℕ) (found : ℕ → Option Found) (map : IsMap pages found) 
       one_page = λ i le lt. one_page i (omega arith);
       carried = b.carried;
       carries = row.carries;
-      new_is = (let all : f.len ≡ 0 + f.len = omega arith in ap (λ (n : ℕ). with_current (with_stack b (lower ++ waiting ++ pushes.upper_new)) (record { base = f.base; next = n })) all);
+      new_is = (let all : f.len ≡ 0 + f.len = omega arith in ap (λ (n : ℕ). with_current (with_stack b (lower ++ waiting ++ pushes.upper_new)) (record { base = f.base; next = n; len = f.len })) all);
     }
 
     pub finished_stack : b.stack ≡ lower ++ next

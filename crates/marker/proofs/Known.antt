@@ -14,7 +14,7 @@ use Rattle.block_map.specs.Objects.{IsMap}
 use Rattle.marker.specs.declared.entry.Entry.{Entry}
 use Rattle.marker.specs.Marking.{Marking, IsConsistent, IsMarked, entries, with_current, with_carried}
 use Rattle.marker.specs.Growth.{MarksObject, MarksWord, MarksWords, Awaits, entry_of, nothing, object, begun, and_word, pointer_free, pushed, dirtied}
-use Rattle.marker.specs.Entries.{IsUnread, IsLive, IsOnTop, AreUnreadFrom, Settles, ReadsOn, read_on}
+use Rattle.marker.specs.Entries.{IsUnread, IsKnown, IsLive, IsOnTop, StandsOnPage, AreUnreadFrom, Settles, ReadsOn, read_on}
 use Rattle.marker.proofs.Closures.{at_base}
 use Rattle.marker.proofs.MarkWord.{object_extends, object_marked}
 use Rattle.marker.proofs.Words.{words_extends}
@@ -24,8 +24,11 @@ module _ (found : ℕ → Option Found) where
   pub unread_more : (a b : Marking) (e : Entry) (f : Found) → ((k : ℕ) → IsMarked a k → IsMarked b k) → IsUnread found a e f → IsUnread found b e f
   unread_more a b e f more u = record { object = u.object; base = u.base; normal = u.normal; marked = more f.base u.marked; left = u.left }
 
+  known_more : (a b : Marking) (e : Entry) → ((k : ℕ) → IsMarked a k → IsMarked b k) → IsKnown found a e → IsKnown found b e
+  known_more a b e more k = record { object = k.object; unread = unread_more a b e k.object more k.unread; len = k.len }
+
   pub from_more : (a b : Marking) (n : ℕ) (es : List Entry) → ((k : ℕ) → IsMarked a k → IsMarked b k) → AreUnreadFrom found a n es → AreUnreadFrom found b n es
-  from_more a b n es more k = record { each = λ i e from lt is. (let u = k.each i e from lt is in (u.0, unread_more a b e u.0 more u.1)) }
+  from_more a b n es more k = record { each = λ i e from lt is. known_more a b e more (k.each i e from lt is) }
 
   -- the first of them
   pub from_first : (m : Marking) (n : ℕ) (es more : List Entry) → AreUnreadFrom found m n (es ++ more) → AreUnreadFrom found m n es
@@ -34,7 +37,7 @@ module _ (found : ℕ → Option Found) where
   }
 
   -- and one more
-  pub from_push : (m : Marking) (n : ℕ) (es : List Entry) (e : Entry) → AreUnreadFrom found m n es → (f : Found) × IsUnread found m e f → AreUnreadFrom found m n (es ++ e ∷ [])
+  pub from_push : (m : Marking) (n : ℕ) (es : List Entry) (e : Entry) → AreUnreadFrom found m n es → IsKnown found m e → AreUnreadFrom found m n (es ++ e ∷ [])
   from_push m n es e k u = record {
     each = λ i d from lt is. (let l = length_push es e in
         ⊎_elim
@@ -42,7 +45,7 @@ module _ (found : ℕ → Option Found) where
         (λ (past : length es ≤ i).
         let at : length es ≡ i = omega arith in
         let same : e ≡ d = sym (get_or_push es e d i at) ∙ is in
-        subst (λ (x : Entry). (f : Found) × IsUnread found m x f) same u)
+        subst (λ (x : Entry). IsKnown found m x) same u)
         (cases_lt i (length es)));
   }
 
@@ -59,34 +62,36 @@ module _ (found : ℕ → Option Found) where
       record { each = λ i e from lt is. s.each i e (fewer i from lt) lt is }
 
   -- the one that is being read
-  pub known_current : (m : Marking) (n : ℕ) (e : Entry) → AreUnreadFrom found m n (entries m) → n ≤ length m.stack → m.current ≡ Some e → (f : Found) × IsUnread found m e f
+  pub known_current : (m : Marking) (n : ℕ) (e : Entry) → AreUnreadFrom found m n (entries m) → n ≤ length m.stack → m.current ≡ Some e → IsKnown found m e
   known_current m n e known low is =
       let es : entries m ≡ m.stack ++ e ∷ [] = ap (λ o. m.stack ++ option_to_list o) is in
       let k = subst (AreUnreadFrom found m n) es known in
       let l = length_push m.stack e in
       k.each (length m.stack) e low (omega arith) (get_or_push m.stack e e (length m.stack) refl)
 
-  -- the one on top of the stack
-  pub known_top : (m : Marking) (n : ℕ) (d : Entry) (g : Found) → IsConsistent m → AreUnreadFrom found m n m.stack → n < length m.stack → found (get_or m.stack (length m.stack - 1) d).base ≡ Some g → IsOnTop found m g
-  known_top m n d g consistent known low at =
+  -- the one on top of the stack, whose words stand on one page
+  pub known_top : (pages : ℕ) → IsMap pages found → (m : Marking) (n : ℕ) (d : Entry) → IsConsistent m → AreUnreadFrom found m n m.stack → n < length m.stack
+      → StandsOnPage (get_or m.stack (length m.stack - 1) d) → IsOnTop pages found m (get_or m.stack (length m.stack - 1) d)
+  known_top pages map m n d consistent known low on_page =
       let k : ℕ = length m.stack - 1 in
       let e : Entry = get_or m.stack k d in
       let u = known.each k e (omega arith) (omega arith) (get_or_default m.stack k e d (omega arith)) in
-      let same : u.0 ≡ g = same_Some u.0 g (sym u.1.object ∙ ap found u.1.base ∙ at) in
-      let base : g.base ≡ e.base = subst (λ (f : Found). f.base ≡ e.base) same u.1.base in
       let first : e.next ≡ 0 = consistent.unread e (Contains-get_or m.stack k d (omega arith)) in
-      let is : e ≡ entry_of g = λ i. record { base = sym base i; next = first i } in
       record {
+        object = u.object;
+        is = λ i. record { base = sym u.unread.base i; next = first i; len = u.len i };
         below = take k m.stack;
-        stack = sym (take-length m.stack) ∙ ap (λ j. take j m.stack) (let l : length m.stack ≡ suc k = omega arith in l) ∙ take-suc m.stack k d (omega arith) ∙ ap (λ x. take k m.stack ++ x ∷ []) is;
-        unread = subst (λ x. IsUnread found m x g) is (subst (IsUnread found m e) same u.1);
+        stack = sym (take-length m.stack) ∙ ap (λ j. take j m.stack) (let l : length m.stack ≡ suc k = omega arith in l) ∙ take-suc m.stack k d (omega arith);
+        unread = u.unread;
+        placed = map.placed u.object.base u.object u.unread.object;
+        on_page = on_page;
       }
 
   -- it is taken off
-  pub top_taken : (m : Marking) (n : ℕ) (g : Found) (top : IsOnTop found m g) (new : Marking) → new.marks ≡ m.marks → new.stack ≡ top.below → AreUnreadFrom found m n m.stack → AreUnreadFrom found new n new.stack
-  top_taken m n g top new marks stack known =
+  pub top_taken : (pages : ℕ) (m : Marking) (n : ℕ) (e : Entry) (top : IsOnTop pages found m e) (new : Marking) → new.marks ≡ m.marks → new.stack ≡ top.below → AreUnreadFrom found m n m.stack → AreUnreadFrom found new n new.stack
+  top_taken pages m n e top new marks stack known =
       subst (AreUnreadFrom found new n) (sym stack)
-      (from_more m new n top.below (λ j h. subst (λ r. Has r (granule j)) (sym marks) h) (from_first m n top.below (entry_of g ∷ []) (subst (AreUnreadFrom found m n) top.stack known)))
+      (from_more m new n top.below (λ j h. subst (λ r. Has r (granule j)) (sym marks) h) (from_first m n top.below (e ∷ []) (subst (AreUnreadFrom found m n) top.stack known)))
 
   -- none are known before
   pub known_none : (m : Marking) (n : ℕ) → length m.stack < n → AreUnreadFrom found m n (entries m)
@@ -111,10 +116,10 @@ module _ (found : ℕ → Option Found) where
       same_Some f g (sym a.unread.object ∙ ap found at ∙ b.unread.object)
 
   -- that of its base
-  pub known_live : (m : Marking) (e : Entry) (g : Found) → m.current ≡ Some e → (f : Found) × IsUnread found m e f → found e.base ≡ Some g → IsLive found m g
+  pub known_live : (m : Marking) (e : Entry) (g : Found) → m.current ≡ Some e → IsKnown found m e → found e.base ≡ Some g → IsLive found m g
   known_live m e g is u at =
-      let same : u.0 ≡ g = same_Some u.0 g (sym u.1.object ∙ ap found u.1.base ∙ at) in
-      record { entry = e; current = is; unread = subst (IsUnread found m e) same u.1 }
+      let same : u.object ≡ g = same_Some u.object g (sym u.unread.object ∙ ap found u.unread.base ∙ at) in
+      record { entry = e; current = is; unread = subst (IsUnread found m e) same u.unread }
 
 -- words are done with
 module _ (pages : ℕ) (found : ℕ → Option Found) (map : IsMap pages found) where
@@ -124,7 +129,11 @@ module _ (pages : ℕ) (found : ℕ → Option Found) (map : IsMap pages found) 
   known_object g old new n is size x (pushed k r s d) known =
       subst (AreUnreadFrom found new n) (sym s)
       (from_push found new n old.stack (entry_of g) (from_more found old new n old.stack (object_extends pages found map g is old new size x).marks known)
-      (g, record { object = is; base = refl; normal = k; marked = object_marked pages found map g is old new size x; left = (map.placed g.base g is).some }))
+      (record {
+        object = g;
+        unread = record { object = is; base = refl; normal = k; marked = object_marked pages found map g is old new size x; left = (map.placed g.base g is).some };
+        len = refl;
+      }))
   known_object g old new n is size x (dirtied k r s d) known =
       subst (AreUnreadFrom found new n) (sym s) (from_more found old new n old.stack (object_extends pages found map g is old new size x).marks known)
 
@@ -139,8 +148,8 @@ module _ (pages : ℕ) (found : ℕ → Option Found) (map : IsMap pages found) 
 
     -- of the entry that is being read
     module _ (words : List ℕ) (k : ℕ) (on : Marking) (x : ReadsOn found words k old on) where
-      mid_known : AreUnreadFrom found (with_current (with_carried x.mid x.carried) (read_on x.live.entry k)) n x.mid.stack
-      mid_known = from_more found x.mid (with_current (with_carried x.mid x.carried) (read_on x.live.entry k)) n x.mid.stack (λ j h. h) (known_words x.reads)
+      mid_known : AreUnreadFrom found (with_current (with_carried x.mid x.carried) (read_on x.object x.live.entry k)) n x.mid.stack
+      mid_known = from_more found x.mid (with_current (with_carried x.mid x.carried) (read_on x.object x.live.entry k)) n x.mid.stack (λ j h. h) (known_words x.reads)
 
       pub known_on : AreUnreadFrom found on n on.stack
       known_on = subst (λ (m : Marking). AreUnreadFrom found m n m.stack) (sym x.new_is) mid_known
@@ -153,13 +162,14 @@ module _ (pages : ℕ) (found : ℕ → Option Found) (map : IsMap pages found) 
           let fits = x.fits in
           let less : x.live.entry.next + k < x.object.len = ⊎_elim (λ (h : k < left). omega arith) (λ (past : left ≤ k). absurd (other (omega arith))) (cases_lt k left) in
           subst (λ (m : Marking). AreUnreadFrom found m n (entries m)) (sym x.new_is)
-          (from_push found (with_current (with_carried x.mid x.carried) (read_on x.live.entry k)) n x.mid.stack (read_on x.live.entry k) mid_known (
-            x.object,
-            record {
+          (from_push found (with_current (with_carried x.mid x.carried) (read_on x.object x.live.entry k)) n x.mid.stack (read_on x.object x.live.entry k) mid_known (record {
+            object = x.object;
+            unread = record {
               object = x.live.unread.object;
               base = x.live.unread.base;
               normal = x.live.unread.normal;
               marked = (words_extends pages found map old size x.reads).marks x.object.base x.live.unread.marked;
               left = less;
-            },
-          ))
+            };
+            len = refl;
+          }))

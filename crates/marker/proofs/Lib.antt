@@ -22,3 +22,4 @@ pub mod Rescanning
 pub mod Parts
 pub mod Rereading
 pub mod Keeping
+pub mod Rests

@@ -23,10 +23,10 @@ use Rattle.marker.proofs.Dropping.{is_current}
 -- where the reading ends, as its relation says it
 module _ (pages : ℕ) (found : ℕ → Option Found) (map : IsMap pages found) (words : List ℕ) (n : ℕ) (old new' : Marking) (size : length old.marks ≡ PAGE_GRANULES * pages) (x : ReadsOn found words n old new') where
   abbrev next : Entry
-  next = read_on x.live.entry n
+  next = read_on x.object x.live.entry n
 
   abbrev new : Marking
-  new = with_current (with_carried x.mid x.carried) (read_on x.live.entry n)
+  new = with_current (with_carried x.mid x.carried) (read_on x.object x.live.entry n)
 
   extends : Extends found old x.mid
   extends = words_extends pages found map old size x.reads

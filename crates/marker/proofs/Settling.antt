@@ -65,7 +65,7 @@ pub read_out : (found : ℕ → Option Found) (words : List ℕ) (n : ℕ) (old 
     → (e : Entry) → on.current ≡ Some e → IsSpent found on e
 read_out found words n old on f r l all e is g there base normal marked =
     let same : r.live.entry ≡ l.entry = same_Some r.live.entry l.entry (sym r.live.current ∙ l.current) in
-    let now : e ≡ read_on r.live.entry n = same_Some e (read_on r.live.entry n) (sym is ∙ ap (λ (m : Marking). m.current) r.new_is) in
+    let now : e ≡ read_on r.object r.live.entry n = same_Some e (read_on r.object r.live.entry n) (sym is ∙ ap (λ (m : Marking). m.current) r.new_is) in
     let next : e.next ≡ r.live.entry.next + n = ap (λ (x : Entry). x.next) now in
     let at : e.base ≡ r.live.entry.base = ap (λ (x : Entry). x.base) now in
     let first = ap (λ (x : Entry). x.next) same in

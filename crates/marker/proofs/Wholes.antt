@@ -1,12 +1,14 @@
 -- Objects that are read whole, whichever entry without a word left is the one that is being read.
-use Rattle.std.proofs.Common.{◌≡◌, ℕ, ◌+◌, ◌-◌, ◌*◌, List, length, Option, Some, sym, ap, subst, arith}
+use Rattle.std.proofs.Common.{◌≡◌, ℕ, ◌+◌, ◌-◌, ◌*◌, ◌<◌, List, length, Option, Some, sym, ap, subst, arith}
 use Rattle.std.proofs.lemmas.Option.{same_Some}
 use Rattle.words.specs.declared.limits.TheConstants.{PAGE_GRANULES}
+use Rattle.words.specs.Layout.{page_of}
 use Rattle.block_map.specs.declared.found.Found.{Found}
 use Rattle.block_map.specs.Objects.{IsMap}
 use Rattle.marker.specs.declared.entry.Entry.{Entry}
-use Rattle.marker.specs.Marking.{Marking, with_current}
-use Rattle.marker.specs.Entries.{IsSpent, IsTurned, Takes, TakesWhole, nothing, turned}
+use Rattle.marker.specs.Marking.{Marking, with_current, word_address}
+use Rattle.marker.specs.Entries.{IsOnTop, IsSpent, IsTurned, Takes, TakesWhole, nothing, turned}
+use Rattle.marker.specs.Beside.{IsRow}
 use Rattle.marker.proofs.Taking.{takes_grows, takes_trans}
 
 -- one that has no word left, as the one that is being read
@@ -14,7 +16,7 @@ pub spent_current : (found : ℕ → Option Found) (m : Marking) (e : Entry) →
 spent_current found m e s x is = subst (IsSpent found m) (same_Some e x is) s
 
 -- no object has its base below the heap
-spent_outside : (pages : ℕ) (found : ℕ → Option Found) → IsMap pages found → (m : Marking) → IsSpent found m (record { base = 0; next = 0 })
+spent_outside : (pages : ℕ) (found : ℕ → Option Found) → IsMap pages found → (m : Marking) → IsSpent found m (record { base = 0; next = 0; len = 0 })
 spent_outside pages found map m f is base normal marked = let above = (map.placed f.base f is).above in absurd (omega arith)
 
 module _ (found : ℕ → Option Found) (moments : List (List ℕ)) where
@@ -49,8 +51,25 @@ module _ (found : ℕ → Option Found) (moments : List (List ℕ)) where
       let p = x e (spent e is) in
       (p.0, p.1, subst (λ (m : Marking). Takes found moments m n (with_current b p.0)) (ap (λ (o : Option Entry). record a { current = o }) (sym is)) p.2)
 
+-- the words of the object of the entry on top of the stack
+pub top_page : (pages : ℕ) (found : ℕ → Option Found) (m : Marking) (e : Entry) (top : IsOnTop pages found m e) → (i : ℕ) → i < e.len → page_of (word_address top.object i) ≡ page_of (word_address top.object 0)
+top_page pages found m e top i below =
+    let base = ap (λ (x : Entry). x.base) top.is in
+    let p = top.placed in let above = p.above in let aligned = p.aligned in let on = top.on_page in omega arith
+
+pub top_row : (pages : ℕ) (found : ℕ → Option Found) (m : Marking) (e : Entry) → IsOnTop pages found m e → IsRow pages e.base 0 e.len
+top_row pages found m e top =
+    let base = ap (λ (x : Entry). x.base) top.is in let len = ap (λ (x : Entry). x.len) top.is in
+    record {
+      object = top.object;
+      at = sym base;
+      placed = top.placed;
+      fits = omega arith;
+      one_page = λ i from below. top_page pages found m e top i (omega arith);
+    }
+
 -- the pages are as many
 pub whole_pages : (pages : ℕ) (found : ℕ → Option Found) → IsMap pages found → (moments : List (List ℕ)) (a b : Marking) (n : ℕ) → length a.marks ≡ PAGE_GRANULES * pages → TakesWhole found moments a n b → length b.dirty ≡ length a.dirty
 whole_pages pages found map moments a b n size x =
-    let p = x (record { base = 0; next = 0 }) (spent_outside pages found map a) in
-    (takes_grows pages found map moments (with_current a (record { base = 0; next = 0 })) size p.2).dirty_len
+    let p = x (record { base = 0; next = 0; len = 0 }) (spent_outside pages found map a) in
+    (takes_grows pages found map moments (with_current a (record { base = 0; next = 0; len = 0 })) size p.2).dirty_len

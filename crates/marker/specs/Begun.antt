@@ -13,7 +13,7 @@ use Rattle.marker.specs.Entries.{IsUnread}
 
 -- the entry of a begun object, as it stood on the stack
 abbrev pub entry_begun : Begun → Entry
-entry_begun b = record { base = b.base; next = 0 }
+entry_begun b = record { base = b.base; next = 0; len = b.len }
 
 -- the entries of begun objects, as they stood on the stack: the first one begun was on top
 abbrev pub entries_begun : List Begun → List Entry

@@ -1,11 +1,12 @@
 -- Marking while others write: the words on dirty pages are others from moment to moment.
-use Rattle.std.specs.Prelude.{◌≡◌, ℕ, ◌<◌, ◌⊎◌, Bool, List, length, Contains, Option, Some}
+use Rattle.std.specs.Prelude.{◌≡◌, ℕ, ◌+◌, ◌<◌, ◌≤◌, ◌⊎◌, Bool, List, length, Contains, Option, Some}
 use Rattle.words.specs.declared.class.Kind.TheVariants.{Normal}
 use Rattle.words.specs.Bits.{Has}
 use Rattle.words.specs.Layout.{page_of}
 use Rattle.pages.specs.Memory.{word_at}
 use Rattle.pages.specs.Reads.{IsWoven}
 use Rattle.block_map.specs.declared.found.Found.{Found}
+use Rattle.block_map.specs.Objects.{IsPlaced}
 use Rattle.marker.specs.Marking.{Marking, IsMarked, IsNewlyMarked, IsObjectGranule, Covers, bytes_of, with_carried, word_address}
 use Rattle.marker.specs.Invariant.{DirtyPageInvariant, CarriedPageInvariant}
 use Rattle.marker.specs.Growth.{MarksWords, CarriesPage, IsStray, words_from}
@@ -41,6 +42,14 @@ pub record IsStrayPageIn (found : ℕ → Option Found) (moments : List (List �
   pub words : List ℕ
   pub moment : Contains moments words
   pub stray : IsStray found (bytes_of m) (word_at words (word_address object index))
+
+-- So many words of an object with this base, from its word `first` on, lie in the heap and stand on one page.
+pub record IsRow (pages base first count : ℕ) : Type 0 where
+  pub object : Found
+  pub at : object.base ≡ base
+  pub placed : IsPlaced pages object
+  pub fits : first + count ≤ object.len
+  pub one_page : (i : ℕ) → first ≤ i → i < first + count → page_of (word_address object i) ≡ page_of (word_address object first)
 
 -- What is done with words of an object that stand on one page, each read at one of the moments.
 pub record MarksRow (found : ℕ → Option Found) (moments : List (List ℕ)) (f : Found) (first n bytes page : ℕ) (old new : Marking) : Type 0 where

@@ -1,10 +1,12 @@
 -- What becomes of the entries.
-use Rattle.std.specs.Prelude.{◌≡◌, ℕ, ◌+◌, ◌<◌, ◌≤◌, Bool, List, [], ◌∷◌, ◌++◌, length, slice_index_or, Contains, IsPermutation, Option, Some, None, ◌⊎◌}
+use Rattle.std.specs.Prelude.{◌≡◌, ℕ, ◌+◌, ◌*◌, ◌%◌, ◌<◌, ◌≤◌, Bool, List, [], ◌∷◌, ◌++◌, length, slice_index_or, Contains, IsPermutation, Option, Some, None, ◌⊎◌}
 use Rattle.words.specs.declared.class.Kind.TheVariants.{Normal}
+use Rattle.words.specs.declared.limits.TheConstants.{PAGE_BYTES, WORD_BYTES}
 use Rattle.words.specs.Layout.{page_of}
 use Rattle.pages.specs.Memory.{word_at}
 use Rattle.pages.specs.Reads.{IsWoven}
 use Rattle.block_map.specs.declared.found.Found.{Found}
+use Rattle.block_map.specs.Objects.{IsPlaced}
 use Rattle.marker.specs.declared.entry.Entry.{Entry}
 use Rattle.marker.specs.Marking.{Marking, IsMarked, IsEntry, entries, with_current, with_carried, with_stack, bytes_of, word_address}
 use Rattle.marker.specs.Invariant.{IsTargetMarked}
@@ -22,21 +24,35 @@ pub record IsUnread (found : ℕ → Option Found) (m : Marking) (e : Entry) (f 
   pub marked : IsMarked m f.base
   pub left : e.next < f.len
 
+-- the entry has a word of an object left to read, whose length it says
+pub record IsKnown (found : ℕ → Option Found) (m : Marking) (e : Entry) : Type 0 where
+  pub object : Found
+  pub unread : IsUnread found m e object
+  pub len : e.len ≡ object.len
+
 -- the entry that is being read has a word of this object left to read
 pub record IsLive (found : ℕ → Option Found) (m : Marking) (f : Found) : Type 0 where
   pub entry : Entry
   pub current : m.current ≡ Some entry
   pub unread : IsUnread found m entry f
 
--- The entry of this object is on top of the stack, and has all its words left to read.
-pub record IsOnTop (found : ℕ → Option Found) (m : Marking) (f : Found) : Type 0 where
-  pub below : List Entry
-  pub stack : m.stack ≡ below ++ entry_of f ∷ []
-  pub unread : IsUnread found m (entry_of f) f
+-- the words that the entry says stand on one page
+abbrev pub StandsOnPage : Entry → Type 0
+StandsOnPage e = e.base % PAGE_BYTES + WORD_BYTES * e.len ≤ PAGE_BYTES
 
--- each of these entries from number `known` on has a word left to read
+-- This entry is on top of the stack. It is that of an object that stands on one page, and has all its words left to read.
+pub record IsOnTop (pages : ℕ) (found : ℕ → Option Found) (m : Marking) (e : Entry) : Type 0 where
+  pub object : Found
+  pub is : e ≡ entry_of object
+  pub below : List Entry
+  pub stack : m.stack ≡ below ++ e ∷ []
+  pub unread : IsUnread found m e object
+  pub placed : IsPlaced pages object
+  pub on_page : StandsOnPage e
+
+-- each of these entries from number `known` on has a word left to read, of an object whose length it says
 pub record AreUnreadFrom (found : ℕ → Option Found) (m : Marking) (known : ℕ) (es : List Entry) : Type 0 where
-  pub each : (i : ℕ) (e : Entry) → known ≤ i → i < length es → slice_index_or es i e ≡ e → (f : Found) × IsUnread found m e f
+  pub each : (i : ℕ) (e : Entry) → known ≤ i → i < length es → slice_index_or es i e ≡ e → IsKnown found m e
 
 -- Entries that have no word to read are dropped, the one that is being read first and then from the top of the stack.
 -- The one that is then on top is the one that is being read; nothing else changes.
@@ -76,9 +92,9 @@ pub record Turns (found : ℕ → Option Found) (old new : Marking) : Type 0 whe
   pub turned : IsTurned old new
   pub spent : (e : Entry) → old.current ≡ Some e → IsSpent found old e
 
--- the entry once n more words are read
-abbrev pub read_on : Entry → ℕ → Entry
-read_on e n = record { base = e.base; next = e.next + n }
+-- the entry once n more words of this object are read
+abbrev pub read_on : Found → Entry → ℕ → Entry
+read_on f e n = record { base = e.base; next = e.next + n; len = f.len }
 
 -- The next n words of the entry that is being read, which stand on one page, are done with, and it goes on by n.
 pub record ReadsOn (found : ℕ → Option Found) (words : List ℕ) (n : ℕ) (old new : Marking) : Type 0 where
@@ -91,7 +107,7 @@ pub record ReadsOn (found : ℕ → Option Found) (words : List ℕ) (n : ℕ) (
   pub one_page : (i : ℕ) → live.entry.next ≤ i → i < live.entry.next + n → page_of (word_address object i) ≡ page
   pub carried : List Bool
   pub carries : CarriesPage found (bytes_of old) (words_from words object live.entry.next n) page old.carried carried
-  pub new_is : new ≡ with_current (with_carried mid carried) (read_on live.entry n)
+  pub new_is : new ≡ with_current (with_carried mid carried) (read_on object live.entry n)
 
 -- The same, where each word is read at one of these moments.
 pub record ReadsIn (found : ℕ → Option Found) (moments : List (List ℕ)) (n : ℕ) (old new : Marking) : Type 0 where

@@ -21,7 +21,7 @@ pub record IsDirtied (old new : List Bool) (first end : ℕ) : Type 0 where
 
 -- the entry of an object from its word 0 on
 abbrev pub entry_of : Found → Entry
-entry_of f = record { base = f.base; next = 0 }
+entry_of f = record { base = f.base; next = 0; len = f.len }
 
 -- What is done so that the words of a newly marked object are read, one of three: nothing, since they point into none;
 -- its entry goes on top of the stack; or, where the stack is full, the pages that it covers become dirty.

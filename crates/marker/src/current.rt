@@ -165,10 +165,13 @@ impl Marker {
         let address = found.base + WORD_BYTES * u64::from(entry.next);
         let on_page = (PAGE_BYTES - address % PAGE_BYTES) / WORD_BYTES;
         let count = u64::from(found.len - entry.next).min(most).min(on_page);
-        self.mark_words(map, heap_bytes, reader, found, entry.next, count, false);
+        self.mark_words(
+            map, heap_bytes, reader, found.base, entry.next, count, false,
+        );
         self.current = Some(Entry {
             base: entry.base,
             next: entry.next + count as u32,
+            len: found.len,
         });
         count
     }

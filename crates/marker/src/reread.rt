@@ -153,7 +153,7 @@ impl Marker {
         let base = FIRST_ADDRESS + GRANULE_BYTES * granule as u64;
         let found = object_in_block(page, block, base);
         // The block's objects end on its page, so that all their words are read, and the number of them is the block's.
-        self.mark_object(map, heap_bytes, reader, found, false);
+        self.mark_object(map, heap_bytes, reader, found.base, found.len, false);
     }
 
     // Whether an object's words are read: it is a marked Normal one.
@@ -202,7 +202,7 @@ impl Marker {
             return part.stop;
         }
         self.mark_words(
-            map, heap_bytes, reader, found, part.first, part.count, false,
+            map, heap_bytes, reader, found.base, part.first, part.count, false,
         );
         part.stop
     }

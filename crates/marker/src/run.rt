@@ -3,16 +3,16 @@
 ghost use Rattle.std.specs.Prelude.{◌≡◌, ℕ, ◌+◌, ◌*◌, ◌<◌, ◌≤◌, List, [], ◌∷◌, length, slice_set, true, All};
 ghost use Rattle.words.specs.declared.limits.TheConstants.{PAGE_BYTES, PAGE_WORDS};
 ghost use Rattle.words.specs.Layout.{page_of};
-ghost use Rattle.block_map.specs.Objects.{IsPlaced};
+ghost use Rattle.block_map.specs.declared.found.Found.{Found};
 ghost use Rattle.block_map.specs.FoundIn.{found_in, IsLawful};
 ghost use Rattle.marker.specs.Marking.{IsOutside, StaysDirty, with_carried, word_address, AreMarksObjects};
 ghost use Rattle.marker.specs.Work.{cost};
 ghost use Rattle.marker.specs.Invariant.{AreRootsMarked};
-ghost use Rattle.marker.specs.Beside.{MarksRow};
+ghost use Rattle.marker.specs.Beside.{IsRow, MarksRow};
 ghost use Rattle.marker.specs.Growth.{MarksFirst, MarksWords, TellsFirst, TellsStray, Traces};
 
 use crate::marker::{Marker, heap_bytes};
-use block_map::{BlockMap, Found};
+use block_map::BlockMap;
 use pages::{Reader, Words};
 use words::limits::{FIRST_ADDRESS, WORD_BYTES};
 use words::{PageNo, page_of};
@@ -153,7 +153,7 @@ impl Marker {
         self.carried.set(page);
     }
 
-    // Marks what words of an object point into: so many, from its word `first` on, which stand on one page. The page is
+    // Marks what words of the object with this base point into: so many, from its word `first` on, which stand on one page. The page is
     // carried if one of them is stray.
     #[inline(always)]
     pub(crate) fn mark_words(
@@ -161,7 +161,7 @@ impl Marker {
         map: &BlockMap,
         heap_bytes: u64,
         reader: &mut Reader,
-        found: Found,
+        base: u64,
         first: u32,
         count: u64,
         here: bool,
@@ -171,10 +171,8 @@ impl Marker {
         requires lawful { IsLawful map.now }
         requires bytes { heap_bytes ≡ PAGE_BYTES * length map.now }
         requires memory { length reader.old.words ≡ PAGE_WORDS * length map.now }
-        requires placed { IsPlaced (length map.now) found }
-        requires fits { first + count ≤ found.len }
-        requires one_page { (i : ℕ) → first ≤ i → i < first + count → page_of (word_address found i) ≡ page_of (word_address found first) }
-        ensures row { MarksRow (found_in map.now) reader.old.moments found first count (PAGE_BYTES * length map.now) (page_of (word_address found first)) self.old self.new }
+        requires row { IsRow (length map.now) base first count }
+        ensures row { (f : Found) → f.base ≡ base → MarksRow (found_in map.now) reader.old.moments f first count (PAGE_BYTES * length map.now) (page_of (word_address f first)) self.old self.new }
         ensures words { reader.new.words ≡ reader.old.words }
         ensures moments { reader.new.moments ≡ reader.old.moments }
         ensures counted { reader.new.reads ≡ reader.old.reads + count }
@@ -182,21 +180,22 @@ impl Marker {
     {
         self.laws();
         reader.laws();
-        let start = found.base + WORD_BYTES * u64::from(first);
+        let start = base + WORD_BYTES * u64::from(first);
         if self.mark_all(map, heap_bytes, reader.read_run(start, count), here) {
             self.carry(start);
         }
     }
 
-    // Marks what all words of an object point into, which stand on one page. Of two and of four words, as most objects have, a compiler
-    // makes no loop. It is part of each caller, or an object would go there by memory.
+    // Marks what all words of the object with this base point into, which stand on one page: so many. Of two and of four words, as most
+    // objects have, a compiler makes no loop.
     #[inline(always)]
     pub(crate) fn mark_object(
         &mut self,
         map: &BlockMap,
         heap_bytes: u64,
         reader: &mut Reader,
-        found: Found,
+        base: u64,
+        len: u32,
         here: bool,
     )
         requires pages { length self.old.dirty ≡ length map.now }
@@ -204,18 +203,17 @@ impl Marker {
         requires lawful { IsLawful map.now }
         requires bytes { heap_bytes ≡ PAGE_BYTES * length map.now }
         requires memory { length reader.old.words ≡ PAGE_WORDS * length map.now }
-        requires placed { IsPlaced (length map.now) found }
-        requires one_page { (i : ℕ) → 0 ≤ i → i < 0 + found.len → page_of (word_address found i) ≡ page_of (word_address found 0) }
-        ensures row { MarksRow (found_in map.now) reader.old.moments found 0 found.len (PAGE_BYTES * length map.now) (page_of (word_address found 0)) self.old self.new }
+        requires row { IsRow (length map.now) base 0 len }
+        ensures row { (f : Found) → f.base ≡ base → MarksRow (found_in map.now) reader.old.moments f 0 len (PAGE_BYTES * length map.now) (page_of (word_address f 0)) self.old self.new }
         ensures words { reader.new.words ≡ reader.old.words }
         ensures moments { reader.new.moments ≡ reader.old.moments }
-        ensures counted { reader.new.reads ≡ reader.old.reads + found.len }
+        ensures counted { reader.new.reads ≡ reader.old.reads + len }
         ensures objects { AreMarksObjects (found_in map.now) self.new }
     {
-        match found.len {
-            2 => self.mark_words(map, heap_bytes, reader, found, 0, 2, here),
-            4 => self.mark_words(map, heap_bytes, reader, found, 0, 4, here),
-            len => self.mark_words(map, heap_bytes, reader, found, 0, u64::from(len), here),
+        match len {
+            2 => self.mark_words(map, heap_bytes, reader, base, 0, 2, here),
+            4 => self.mark_words(map, heap_bytes, reader, base, 0, 4, here),
+            _ => self.mark_words(map, heap_bytes, reader, base, 0, u64::from(len), here),
         }
     }
 

@@ -88,8 +88,8 @@ impl MarkStack {
             return None;
         }
         self.len -= 1;
-        let Entry { base, next } = self.entries[self.len];
-        Some(Entry { base, next })
+        let Entry { base, next, len } = self.entries[self.len];
+        Some(Entry { base, next, len })
     }
 
     /// Takes all entries off.
@@ -109,7 +109,9 @@ impl MarkStack {
         let (second, top) = (self.entries[below], self.entries[below + 1]);
         self.entries[below].base = top.base;
         self.entries[below].next = top.next;
+        self.entries[below].len = top.len;
         self.entries[below + 1].base = second.base;
         self.entries[below + 1].next = second.next;
+        self.entries[below + 1].len = second.len;
     }
 }

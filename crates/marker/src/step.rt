@@ -8,7 +8,7 @@ ghost use Rattle.marker.specs.Marking.{IsEmpty, StaysDirty, AreMarksObjects};
 ghost use Rattle.marker.specs.Work.{cost};
 ghost use Rattle.marker.specs.Growth.{Traces};
 ghost use Rattle.marker.specs.Beside.{AreBeside, TracesIn};
-ghost use Rattle.marker.specs.Entries.{IsSpent, IsUnread, IsLive, AreUnreadFrom, Takes, TakesOff};
+ghost use Rattle.marker.specs.Entries.{IsSpent, IsUnread, IsKnown, IsLive, AreUnreadFrom, Takes, TakesOff};
 
 use crate::entry::Entry;
 use crate::marker::{Marker, heap_bytes};
@@ -102,8 +102,20 @@ impl Marker {
         }
     }
 
-    // From which number on the entries that wait are known to have a word: from `known` on they are, and of those below some
-    // are looked up, fewer where little may be read.
+    // Whether an entry has words left to read, of an object of the length that it says.
+    #[inline]
+    fn is_known(&self, map: &BlockMap, entry: Entry) -> bool
+        requires pages { length self.now.dirty ≡ length map.now }
+        ensures { result ≡ true → IsKnown (found_in map.now) self.now entry }
+    {
+        match self.unread(map, entry) {
+            Some(found) => found.len == entry.len,
+            None => false,
+        }
+    }
+
+    // From which number on the entries that wait are known to have a word, and their object the length that they say: from `known` on they
+    // are, and of those below some are looked up, fewer where little may be read.
     #[inline(never)]
     fn look_below(&self, map: &BlockMap, known: usize, most: u64) -> usize
         requires pages { length self.now.dirty ≡ length map.now }
@@ -115,7 +127,7 @@ impl Marker {
         let waiting = self.waiting();
         let mut lowest = known;
         for _ in 0..(most / WORDS_A_LOOK).min(LOOKS) {
-            if lowest == 0 || self.unread(map, waiting[lowest - 1]).is_none() {
+            if lowest == 0 || !self.is_known(map, waiting[lowest - 1]) {
                 return lowest;
             }
             lowest -= 1;

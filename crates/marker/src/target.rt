@@ -48,7 +48,7 @@ impl Marker {
         self.mark_unmarked(map, word, here)
     }
 
-    // Marks the object that a word points into which is no marked base. Of a base in a cell no look-up is needed, where `here` is true.
+    // Marks the object that a word points into which is no marked base. Where `here` is true this is part of the caller.
     #[inline(always)]
     fn mark_unmarked(&mut self, map: &BlockMap, word: u64, here: bool) -> bool
         requires pages { length self.old.dirty ≡ length map.now }
@@ -60,24 +60,17 @@ impl Marker {
         ensures stray { TellsStray (found_in map.now) (PAGE_BYTES * length map.now) (word ∷ []) result }
         ensures objects { AreMarksObjects (found_in map.now) self.new }
     {
-        if !here {
-            return self.mark_target(map, word);
+        if here {
+            self.mark_near(map, word)
+        } else {
+            self.mark_target(map, word)
         }
-        self.laws();
-        if word % GRANULE_BYTES == 0 && self.depth() < ENTRIES {
-            if let Some(found) = map.base_in_cell(word) {
-                self.mark_base(word, found.kind);
-                return false;
-            }
-        }
-        self.mark_other(map, word)
     }
 
-    // The same of what is no base in a cell, or finds the stack full. That such words are rare tells a compiler which of the machine's registers
-    // the loop over words is to have.
-    #[cold]
+    // The same, as a call: most words point into no object, or into objects that are marked, so that the loop over words is to hold the
+    // tests for these and not this.
     #[inline(never)]
-    fn mark_other(&mut self, map: &BlockMap, word: u64) -> bool
+    fn mark_target(&mut self, map: &BlockMap, word: u64) -> bool
         requires pages { length self.old.dirty ≡ length map.now }
         requires objects { AreMarksObjects (found_in map.now) self.old }
         requires lawful { IsLawful map.now }
@@ -87,15 +80,37 @@ impl Marker {
         ensures stray { TellsStray (found_in map.now) (PAGE_BYTES * length map.now) (word ∷ []) result }
         ensures objects { AreMarksObjects (found_in map.now) self.new }
     {
-        self.mark_target(map, word)
+        self.mark_near(map, word)
     }
 
-    // Marks the object that a word points into, if it points into one. Most words point into none, or into objects that are
-    // marked, so that the loop over words is to hold the tests for these and not this. Answers whether it points into none. Most
-    // pages are cut, so that what is on others is looked up elsewhere, as is what finds the stack full: with no call but the last
-    // one, nothing is kept on the machine's stack here.
+    // The same: of a base in a cell no look-up is needed.
+    #[inline(always)]
+    fn mark_near(&mut self, map: &BlockMap, word: u64) -> bool
+        requires pages { length self.old.dirty ≡ length map.now }
+        requires objects { AreMarksObjects (found_in map.now) self.old }
+        requires lawful { IsLawful map.now }
+        requires inside { (FIRST_ADDRESS ≤ word) × (word < FIRST_ADDRESS + PAGE_BYTES * length map.now) }
+        requires unmarked { word % GRANULE_BYTES ≡ 0 → Has self.old.marks (granule word) → ⊥ }
+        ensures marks { MarksWord (found_in map.now) word self.old self.new }
+        ensures stray { TellsStray (found_in map.now) (PAGE_BYTES * length map.now) (word ∷ []) result }
+        ensures objects { AreMarksObjects (found_in map.now) self.new }
+    {
+        self.laws();
+        if word % GRANULE_BYTES == 0 && self.depth() < ENTRIES {
+            if let Some(found) = map.base_in_cell(word) {
+                self.mark_base(word, found.len, found.kind);
+                return false;
+            }
+        }
+        self.mark_other(map, word)
+    }
+
+    // The same of what is no base in a cell, or finds the stack full. That such words are rare tells a compiler which of the machine's registers
+    // the loop over words is to have. Answers whether the word points into no object. Most pages are cut, so that what is on others is looked
+    // up elsewhere, as is what finds the stack full.
+    #[cold]
     #[inline(never)]
-    fn mark_target(&mut self, map: &BlockMap, word: u64) -> bool
+    fn mark_other(&mut self, map: &BlockMap, word: u64) -> bool
         requires pages { length self.old.dirty ≡ length map.now }
         requires objects { AreMarksObjects (found_in map.now) self.old }
         requires lawful { IsLawful map.now }
@@ -116,10 +131,10 @@ impl Marker {
             return true;
         };
         if found.base != word {
-            self.mark_inside(found.base, found.kind);
+            self.mark_inside(found);
             return false;
         }
-        self.mark_base(word, found.kind);
+        self.mark_base(word, found.len, found.kind);
         false
     }
 
@@ -152,28 +167,28 @@ impl Marker {
 
     // Marks an unmarked object that a word points into, where the stack has room for it.
     #[inline]
-    fn mark_base(&mut self, base: u64, kind: Kind)
+    fn mark_base(&mut self, base: u64, len: u32, kind: Kind)
         requires low { FIRST_ADDRESS ≤ base }
         requires inside { granule base < length self.old.marks }
         requires unmarked { Has self.old.marks (granule base) → ⊥ }
         requires room { length self.old.stack < MARK_STACK_ENTRIES }
-        ensures { (objects : ℕ → Option Found) (word : ℕ) (f : Found) → objects word ≡ Some f → f.base ≡ base → f.kind ≡ kind → MarksWord objects word self.old self.new }
+        ensures { (objects : ℕ → Option Found) (word : ℕ) (f : Found) → objects word ≡ Some f → f.base ≡ base → f.len ≡ len → f.kind ≡ kind → MarksWord objects word self.old self.new }
     {
         self.marks.set(granule_of(base));
-        self.await_with_room(base, kind);
+        self.await_with_room(base, len, kind);
     }
 
     // Marks an object that a word points into which isn't its base. It is a call, so that a processor that foresees none goes on with the
     // word as the base, and waits for no look-up.
     #[inline(never)]
-    fn mark_inside(&mut self, base: u64, kind: Kind)
-        requires low { FIRST_ADDRESS ≤ base }
-        requires inside { granule base < length self.old.marks }
+    fn mark_inside(&mut self, found: Found)
+        requires low { FIRST_ADDRESS ≤ found.base }
+        requires inside { granule found.base < length self.old.marks }
         requires room { length self.old.stack < MARK_STACK_ENTRIES }
-        ensures { (objects : ℕ → Option Found) (word : ℕ) (f : Found) → objects word ≡ Some f → f.base ≡ base → f.kind ≡ kind → MarksWord objects word self.old self.new }
+        ensures { (objects : ℕ → Option Found) (word : ℕ) → objects word ≡ Some found → MarksWord objects word self.old self.new }
     {
-        if !self.is_marked(base) {
-            self.mark_base(base, kind);
+        if !self.is_marked(found.base) {
+            self.mark_base(found.base, found.len, found.kind);
         }
     }
 
@@ -201,7 +216,7 @@ impl Marker {
         ensures awaits { Awaits found self.old self.new }
     {
         if !self.stack.is_full() {
-            self.await_with_room(found.base, found.kind);
+            self.await_with_room(found.base, found.len, found.kind);
         } else if found.kind == Kind::Normal {
             dirty_object(&mut self.dirty, found);
         }
@@ -209,16 +224,16 @@ impl Marker {
 
     // The same, where the stack has room.
     #[inline]
-    fn await_with_room(&mut self, base: u64, kind: Kind)
+    fn await_with_room(&mut self, base: u64, len: u32, kind: Kind)
         requires { length self.old.stack < MARK_STACK_ENTRIES }
         ensures marks { self.new.marks ≡ self.old.marks }
         ensures carried { self.new.carried ≡ self.old.carried }
         ensures current { self.new.current ≡ self.old.current }
-        ensures awaits { (f : Found) → f.base ≡ base → f.kind ≡ kind → Awaits f self.old self.new }
+        ensures awaits { (f : Found) → f.base ≡ base → f.len ≡ len → f.kind ≡ kind → Awaits f self.old self.new }
     {
         if kind == Kind::PointerFree {
             return;
         }
-        self.stack.push(Entry { base, next: 0 });
+        self.stack.push(Entry { base, next: 0, len });
     }
 }

@@ -1,20 +1,20 @@
 //! Objects that are begun together: the first words of several are read before one of them is read on. So the processor
 //! fetches all of these words at once, where it would wait for those of one object after the other.
 ghost use Rattle.std.specs.Prelude.{◌≡◌, ℕ, ◌+◌, ◌*◌, ◌≤◌, ◌++◌, ◌∷◌, [], length, true, Some};
-ghost use Rattle.words.specs.declared.limits.TheConstants.{MARK_STACK_ENTRIES, MOST_PAGES, PAGE_BYTES, PAGE_WORDS};
+ghost use Rattle.words.specs.declared.limits.TheConstants.{MARK_STACK_ENTRIES, PAGE_BYTES, PAGE_WORDS};
 ghost use Rattle.words.specs.Layout.{page_of};
 ghost use Rattle.block_map.specs.declared.found.Found.{Found};
-ghost use Rattle.block_map.specs.Objects.{IsPlaced, LiesOnPage};
 ghost use Rattle.block_map.specs.FoundIn.{found_in, IsLawful};
 ghost use Rattle.marker.specs.Marking.{with_stack, word_address, AreMarksObjects};
 ghost use Rattle.marker.specs.Beside.{MarksRow};
 ghost use Rattle.marker.specs.Entries.{IsOnTop, AreUnreadFrom, TakesWhole};
 ghost use Rattle.marker.specs.Begun.{IsBegun, AreBegun, entry_begun, entries_begun, words_begun};
 
+use crate::entry::Entry;
 use crate::marker::Marker;
 use crate::stack::ENTRIES;
 use arrayvec::ArrayVec;
-use block_map::{BlockMap, Found};
+use block_map::BlockMap;
 use pages::Reader;
 use words::limits::{PAGE_WORDS, WORD_BYTES};
 
@@ -33,36 +33,33 @@ pub(crate) struct Begun {
 
 // Whether an object has two words, and so many at most.
 #[inline]
-fn is_short(found: Found, most: u64) -> bool
-    ensures two { result ≡ true → 2 ≤ found.len }
-    ensures most { result ≡ true → found.len ≤ most }
+fn is_short(len: u32, most: u64) -> bool
+    ensures two { result ≡ true → 2 ≤ len }
+    ensures most { result ≡ true → len ≤ most }
 {
-    found.len >= 2 && u64::from(found.len) <= most
+    len >= 2 && u64::from(len) <= most
 }
 
 impl Marker {
-    // Takes the object of the entry on top off the stack, and reads its first two words.
+    // Takes the entry on top off the stack, and reads the first two words of its object.
     #[inline]
-    fn begin_top(&mut self, map: &BlockMap, reader: &mut Reader, found: Found) -> Begun
-        requires top { IsOnTop (found_in map.now) self.old found }
-        requires placed { IsPlaced (length map.now) found × (length map.now ≤ MOST_PAGES) }
-        requires on_page { LiesOnPage found }
-        requires two { 2 ≤ found.len }
-        requires short { found.len ≤ PAGE_WORDS }
+    fn begin_top(&mut self, map: &BlockMap, reader: &mut Reader, entry: Entry) -> Begun
+        requires top { IsOnTop (length map.now) (found_in map.now) self.old entry }
+        requires two { 2 ≤ entry.len }
         requires memory { length reader.old.words ≡ PAGE_WORDS * length map.now }
         ensures begun { IsBegun (length map.now) (found_in map.now) reader.old.moments self.new result }
-        ensures len { result.len ≡ found.len }
+        ensures len { result.len ≡ entry.len }
         ensures taken { self.old ≡ with_stack self.new (self.new.stack ++ entry_begun result ∷ []) }
         ensures words { reader.new.words ≡ reader.old.words }
         ensures moments { reader.new.moments ≡ reader.old.moments }
         ensures reads { reader.new.reads ≡ reader.old.reads + 2 }
     {
         self.drop_top();
-        let first = reader.read(found.base);
-        let second = reader.read(found.base + WORD_BYTES);
+        let first = reader.read(entry.base);
+        let second = reader.read(entry.base + WORD_BYTES);
         Begun {
-            base: found.base,
-            len: found.len,
+            base: entry.base,
+            len: entry.len,
             first,
             second,
         }
@@ -91,20 +88,19 @@ impl Marker {
         ensures moments { reader.new.moments ≡ reader.old.moments }
         ensures reads { reader.new.reads ≡ reader.old.reads + 2 * length begun.new.items }
     {
-        map.laws();
         let mut left = most;
         for _ in 0..TOGETHER {
             if self.depth() <= known {
                 return;
             }
-            let Some(found) = self.top(map, known) else {
+            let Some(entry) = self.top(map, known) else {
                 return;
             };
-            if !is_short(found, left) {
+            if !is_short(entry.len, left) {
                 return;
             }
-            left -= u64::from(found.len);
-            begun.push(self.begin_top(map, reader, found));
+            left -= u64::from(entry.len);
+            begun.push(self.begin_top(map, reader, entry));
         }
     }
 

@@ -1,19 +1,19 @@
 //! Objects that are read whole, one after the other. Most are small and their entries were pushed in the same step, so that
 //! a step spends its time here.
 ghost use Rattle.std.specs.Prelude.{◌≡◌, ℕ, ◌+◌, ◌-◌, ◌*◌, ◌%◌, ◌<◌, ◌≤◌, ◌++◌, ◌∷◌, [], List, length, true, IfSome};
-ghost use Rattle.words.specs.declared.limits.TheConstants.{FIRST_ADDRESS, MARK_STACK_ENTRIES, MOST_PAGES, PAGE_BYTES, PAGE_WORDS, WORD_BYTES};
-ghost use Rattle.words.specs.Layout.{page_of};
-ghost use Rattle.block_map.specs.Objects.{IsPlaced};
+ghost use Rattle.words.specs.declared.limits.TheConstants.{MARK_STACK_ENTRIES, PAGE_BYTES, PAGE_WORDS, WORD_BYTES};
 ghost use Rattle.block_map.specs.FoundIn.{found_in, IsLawful};
-ghost use Rattle.marker.specs.Marking.{word_address, AreMarksObjects};
+ghost use Rattle.marker.specs.Marking.{AreMarksObjects};
 ghost use Rattle.marker.specs.declared.entry.Entry.{Entry};
 ghost use Rattle.marker.specs.Entries.{IsOnTop, AreUnreadFrom, TakesWhole};
 
+use crate::entry::Entry;
 use crate::marker::Marker;
 use crate::stack::ENTRIES;
 use crate::together::TOGETHER;
-use block_map::{BlockMap, Found};
+use block_map::BlockMap;
 use pages::Reader;
+use words::limits::{PAGE_BYTES, WORD_BYTES};
 
 // Objects are read together where so many wait that are known to have words, and at most so many in all: eight of four words
 // each may fill the rest of the stack then. Few wait in a tree, which mostly lies in the order in which it is marked, so that
@@ -22,37 +22,32 @@ const WIDE: usize = 2 * TOGETHER;
 
 const CROWDED: usize = ENTRIES - 4 * TOGETHER;
 
-// Whether the words of an object are at most so many. An object that has a cell stands on one page.
+// Whether so many words from a base on stand on one page.
 #[inline]
-fn is_whole(found: Found, most: u64) -> bool
-    requires some { 0 < found.len }
-    requires above { FIRST_ADDRESS ≤ found.base }
-    requires on_page { found.base % PAGE_BYTES + WORD_BYTES * found.len ≤ PAGE_BYTES }
-    ensures some { result ≡ true → 0 < found.len }
-    ensures most { result ≡ true → found.len ≤ most }
-    ensures one_page { result ≡ true → (i : ℕ) → 0 ≤ i → i < 0 + found.len → page_of (word_address found i) ≡ page_of (word_address found 0) }
+fn is_on_page(base: u64, len: u32) -> bool
+    ensures { result ≡ true → base % PAGE_BYTES + WORD_BYTES * len ≤ PAGE_BYTES }
 {
-    u64::from(found.len) <= most
+    base % PAGE_BYTES + WORD_BYTES * u64::from(len) <= PAGE_BYTES
 }
 
 impl Marker {
-    // The object of the entry on top of the stack, which is known to have words, if that object has a cell.
+    // The entry on top of the stack, which is known to have words, if these stand on one page. Its object isn't looked up: the entry says
+    // how long it is.
     #[inline(always)]
-    pub(crate) fn top(&self, map: &BlockMap, known: usize) -> Option<Found>
+    pub(crate) fn top(&self, map: &BlockMap, known: usize) -> Option<Entry>
         requires unread { AreUnreadFrom (found_in map.now) self.now known self.now.stack }
         requires known { known < length self.now.stack }
-        ensures top { IfSome result (λ f. IsOnTop (found_in map.now) self.now f) }
-        ensures placed { IfSome result (λ f. IsPlaced (length map.now) f) }
-        ensures on_page { IfSome result (λ f. f.base % PAGE_BYTES + WORD_BYTES * f.len ≤ PAGE_BYTES) }
+        ensures top { IfSome result (λ e. IsOnTop (length map.now) (found_in map.now) self.now e) }
+        ensures some { IfSome result (λ e. 0 < e.len) }
     {
         let waiting = self.waiting();
-        let count = waiting.len();
+        let entry = waiting[waiting.len() - 1];
         self.laws();
         map.laws();
-        let Some(found) = map.cell_with_base(waiting[count - 1].base) else {
+        if !is_on_page(entry.base, entry.len) {
             return None;
-        };
-        Some(found)
+        }
+        Some(entry)
     }
 
     // Takes the entry on top off the stack.
@@ -69,29 +64,27 @@ impl Marker {
 
     // Takes the entry on top off the stack, and reads all words of its object.
     #[inline(always)]
-    fn read_whole(&mut self, map: &BlockMap, heap_bytes: u64, reader: &mut Reader, found: Found)
+    fn read_whole(&mut self, map: &BlockMap, heap_bytes: u64, reader: &mut Reader, entry: Entry)
         requires pages { length self.old.dirty ≡ length map.now }
         requires objects { AreMarksObjects (found_in map.now) self.old }
         requires lawful { IsLawful map.now }
         requires bytes { heap_bytes ≡ PAGE_BYTES * length map.now }
-        requires top { IsOnTop (found_in map.now) self.old found }
-        requires placed { IsPlaced (length map.now) found × (length map.now ≤ MOST_PAGES) }
-        requires one_page { (i : ℕ) → 0 ≤ i → i < 0 + found.len → page_of (word_address found i) ≡ page_of (word_address found 0) }
+        requires top { IsOnTop (length map.now) (found_in map.now) self.old entry }
         requires memory { length reader.old.words ≡ PAGE_WORDS * length map.now }
-        ensures takes { TakesWhole (found_in map.now) reader.old.moments self.old found.len self.new }
+        ensures takes { TakesWhole (found_in map.now) reader.old.moments self.old entry.len self.new }
         ensures known { (n : ℕ) → AreUnreadFrom (found_in map.now) self.old n self.old.stack → AreUnreadFrom (found_in map.now) self.new n self.new.stack }
         ensures words { reader.new.words ≡ reader.old.words }
         ensures moments { reader.new.moments ≡ reader.old.moments }
-        ensures reads { reader.new.reads ≡ reader.old.reads + found.len }
+        ensures reads { reader.new.reads ≡ reader.old.reads + entry.len }
         ensures objects { AreMarksObjects (found_in map.now) self.new }
     {
         self.laws();
         self.drop_top();
-        self.mark_object(map, heap_bytes, reader, found, true);
+        self.mark_object(map, heap_bytes, reader, entry.base, entry.len, true);
     }
 
-    // Reads the object of the entry on top of the stack whole, which is known to have words, if it has a cell and as many words at most as
-    // are left to read. Answers whether it did, which a compiler then knows without a look at the number.
+    // Reads the object of the entry on top of the stack whole, which is known to have words, if they stand on one page and are as many at
+    // most as are left to read. Answers whether it did, which a compiler then knows without a look at the number.
     #[inline(always)]
     fn read_top(
         &mut self,
@@ -117,17 +110,16 @@ impl Marker {
         ensures reads { reader.new.reads + left.new ≡ reader.old.reads + left.old }
         ensures objects { AreMarksObjects (found_in map.now) self.new }
     {
-        map.laws();
-        let Some(found) = self.top(map, known) else {
+        let Some(entry) = self.top(map, known) else {
             return false;
         };
-        if !is_whole(found, *left) {
+        if u64::from(entry.len) > *left {
             return false;
         }
         let depth = self.depth();
-        self.read_whole(map, heap_bytes, reader, found);
-        self.bring_nearer(depth, found.base);
-        *left -= u64::from(found.len);
+        self.read_whole(map, heap_bytes, reader, entry);
+        self.bring_nearer(depth, entry.base);
+        *left -= u64::from(entry.len);
         true
     }
 

@@ -43,14 +43,14 @@ pub struct ObjectSpace {
 }
 
 impl Model for ObjectSpace {
-    ghost use Rattle.lazy_sweep.specs.Sound.{store_with};
+    ghost use Rattle.lazy_sweep.specs.Sound.{store_with, waiting_of};
     ghost use Rattle.object_space.specs.Store.{Store, IsWholeSpace};
 
     ghost Value = { Store };
 
     ghost view = { λ o. store_with o.memory o.table };
 
-    ghost invariant = { λ o. IsWholeSpace (store_with o.memory o.table) o.table.ready o.table.waiting };
+    ghost invariant = { λ o. IsWholeSpace (store_with o.memory o.table) o.table.ready (waiting_of o.table) };
 }
 
 impl ObjectSpace {

@@ -19,7 +19,7 @@ is_kept Lost = false
 -- A journal that is kept has exactly the events of the history, each once, in their order.
 abbrev pub IsOf : Journal → List MadeEvent → Type 0
 IsOf Off history = Unit {0}
-IsOf (On entries) history = map made_of entries.list.items ≡ history
+IsOf (On entries) history = map made_of entries ≡ history
 IsOf Lost history = Unit {0}
 
 -- Whatever history the journal is of, afterwards it is of that history with one event more.

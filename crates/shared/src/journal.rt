@@ -7,6 +7,7 @@ use crate::noting::note_of;
 use heap_core::Core;
 use heap_spec::{Event, Reply};
 use std::alloc::{AllocError, Global};
+use std::marker::Model;
 use std::mem::replace;
 
 /// What the reply to an event leaves open.
@@ -35,12 +36,21 @@ pub struct Entry {
     pub note: Note,
 }
 
-/// The entries of a journal.
+/// The entries of a journal. Contracts see them as a list, oldest first.
 #[derive(Drop)]
 pub struct Entries {
     alloc: Global,
     bases: Vec<u64>,
     list: Vec<Entry>,
+}
+
+impl Model for Entries {
+    ghost use Rattle.std.specs.Prelude.{List};
+    ghost use Rattle.shared.specs.declared.journal.Entry.{Entry};
+
+    ghost Value = { List Entry };
+
+    ghost view = { λ e. e.list.items };
 }
 
 /// What is written down of a history.
@@ -59,7 +69,7 @@ pub enum Journal {
 impl Entries {
     // Those of a history with no events.
     fn new(alloc: Global) -> Entries
-        ensures { result.list.items ≡ [] }
+        ensures { result ≡ [] }
     {
         Entries {
             alloc,
@@ -70,14 +80,14 @@ impl Entries {
 
     /// The entries, oldest first.
     pub fn as_slice(&self) -> &[Entry]
-        ensures { result.now ≡ self.now.list.items }
+        ensures { result.now ≡ self.now }
     {
         self.list.as_slice()
     }
 
     // These, and one more.
     fn with(self, core: &Core, who: u8, call: &Event, reply: &Reply) -> Result<Entries, AllocError>
-        ensures { IfOk result (λ more. map made_of more.list.items ≡ map made_of self.list.items ++ event who call.now reply.now ∷ []) }
+        ensures { IfOk result (λ more. map made_of more ≡ map made_of self ++ event who call.now reply.now ∷ []) }
     {
         let Entries {
             alloc,

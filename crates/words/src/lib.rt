@@ -5,14 +5,14 @@
 //!
 //! Contracts see a class as its words and a row as the list of its bits; the five of `laws` make a row a set. `class_of` is the
 //! table of size classes, exactly (`placement_of`); `next` and `next_clear` find the least place, and `None` exactly where there
-//! is none; `fill` sets many places, each the lowest clear one then (`Fills`); `count` is the number of bits between two places
-//! (`members_between`).
+//! is none; `count` is the number of bits between two places (`members_between`); `keep` leaves of a page's row the members of a
+//! part of another.
 #![tactic(auto)]
 
 mod bit_row;
-mod cell_row;
 mod class;
 mod count;
+mod granule_row;
 pub mod laws;
 mod layout;
 pub mod limits;
@@ -21,9 +21,9 @@ mod refusal;
 mod scan;
 
 pub use bit_row::{BitRow, clear_first};
-pub use cell_row::CellRow;
 pub use class::{CLASSES, Class, Kind, Placement, class_of};
 pub use count::ones_of;
+pub use granule_row::GranuleRow;
 pub use layout::{granule_of, page_of, page_start};
 pub use limits::PageNo;
 pub use numbers::{Global, Reg, Slot};

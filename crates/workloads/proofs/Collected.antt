@@ -21,9 +21,11 @@ use Rattle.heap_history.specs.Passes.{MadeEvent, HeapPass, is_marking as marks}
 use Rattle.heap_history.specs.Headline.{Extends, Looks, IsGrantedByOwnEvents, IsRefusedPartial, BeginsPartialByEvents}
 use Rattle.heap_history.proofs.Passing.{phase_is}
 use Rattle.heap_history.proofs.Chains.{need_is}
+use Rattle.heap_core.specs.Acts.{IsAct}
 use Rattle.heap_core.specs.CoreContents.{CoreContents}
 use Rattle.heap_core.specs.Collections.{IsGrantedInPhase, IsAlwaysGranted, ReadsRoots, TakesWords, ReadsPage, RetracesPage, SweepsOne}
-use Rattle.workloads.specs.OneHistory.{is_in_history, left_by, left_by_all, IsAnsweredAmong, AreAnswered}
+use Rattle.shared.specs.Lending.{IsLent}
+use Rattle.workloads.specs.OneHistory.{is_in_history, left_by, left_by_all, IsAnsweredAmong, IsCoresAnswer, IsStepOfCore, AreAnswered}
 use Rattle.workloads.specs.Actors.{Commanded, CommandedAll}
 use Rattle.workloads.proofs.Counted.{count_is}
 
@@ -57,38 +59,38 @@ module _ (pages : ℕ) (old new : HeapPass) (slot : old.slot ≡ COLLECTOR) (loo
   pub number : collections (opening_start state.pages) state.run ≡ count rank_of old.mine % 2 ^ 64
   number = count_is new.seen state looks.fine.legal.1 ∙ ap (λ (l : List MadeEvent). count rank_of l % 2 ^ 64) own_is
 
-  pub looked : (asked : Event) (reply : Reply) → is_in_history asked reply ≡ false → LineOf (opening_start state.pages) state.run asked reply state.run → Commanded pages old asked reply new
-  looked asked reply quiet allowed = record {
+  pub looked : (asked : Event) (reply : Reply) → is_in_history asked reply ≡ false → LineOf (opening_start state.pages) state.run asked reply state.run → IsStepOfCore pages new.seen asked reply → Commanded pages old asked reply new
+  looked asked reply quiet allowed step = record {
     slot = looks.slot;
     seen = prefix_of old.slot old.seen new.seen looks.seen;
     mine = looks.mine ∙ sym (append-nil old.mine) ∙ ap (λ (b : Bool). old.mine ++ (if b then event COLLECTOR asked reply ∷ [] else [])) (sym quiet);
-    answered = λ _. record { so_far = new.seen; within = prefix_self new.seen; between = own_is; state = state; reached = looks.fine.legal.1; allowed = allowed };
+    answered = λ _. record { so_far = new.seen; within = prefix_self new.seen; between = own_is; state = state; reached = looks.fine.legal.1; allowed = allowed; step = step };
   }
 
 module _ (pages : ℕ) (old new : HeapPass) (asked : Event) (reply : Reply) (slot : old.slot ≡ COLLECTOR) where
   -- refused in the wrong phase
   refused : (command : Event) (why : Refusal) (looks : Looks pages old new) → is_in_history command (Refused why) ≡ false → why ≡ WrongPhase → IsWrongPhase (is_marking (opening_start (state pages old new slot looks).pages) (state pages old new slot looks).run) command
-      → Commanded pages old command (Refused why) new
-  refused command why looks quiet is wrong =
+      → IsStepOfCore pages new.seen command (Refused why) → Commanded pages old command (Refused why) new
+  refused command why looks quiet is wrong step =
       let t = state pages old new slot looks in
-      looked pages old new slot looks command (Refused why) quiet (subst (λ (w : Refusal). LineOf (opening_start t.pages) t.run command (Refused w) t.run) (sym is) (LineOf.refused wrong))
+      looked pages old new slot looks command (Refused why) quiet (subst (λ (w : Refusal). LineOf (opening_start t.pages) t.run command (Refused w) t.run) (sym is) (LineOf.refused wrong)) step
 
   as_asked : (command : Event) (told : Reply) → asked ≡ command → reply ≡ told → Commanded pages old command told new → Commanded pages old asked reply new
   as_asked command told is said c = subst (λ (a : Event). Commanded pages old a reply new) (sym is) (subst (λ (t : Reply). Commanded pages old command t new) (sym said) c)
 
   begun : (r : Result ⊤ Refusal) → IsGrantedByOwnEvents false pages old Begin (λ _. Done) r new → Commanded pages old Begin (done_reply r) new
   begun (Ok done) g = made pages old new Begin Done slot refl g.1
-  begun (Err why) g = refused Begin why g.2 refl g.1 (phase pages old new slot g.2 ∙ g.0)
+  begun (Err why) g = refused Begin why g.2 refl g.1 (phase pages old new slot g.2 ∙ g.0) tt
 
   pub begins : (r : Result ⊤ Refusal) → asked ≡ Begin → reply ≡ done_reply r → IsGrantedByOwnEvents false pages old Begin (λ _. Done) r new → Commanded pages old asked reply new
   begins r is said g = as_asked Begin (done_reply r) is said (begun r g)
 
   -- refused where a cycle is marking, or where a full one is needed
   partial_refused : {why : Refusal} → IsRefusedPartial old new why → Looks pages old new → Commanded pages old BeginPartial (Refused why) new
-  partial_refused (IsRefusedPartial.wrong_phase is) looks = looked pages old new slot looks BeginPartial (Refused WrongPhase) refl (LineOf.refused (phase pages old new slot looks ∙ is))
+  partial_refused (IsRefusedPartial.wrong_phase is) looks = looked pages old new slot looks BeginPartial (Refused WrongPhase) refl (LineOf.refused (phase pages old new slot looks ∙ is)) tt
   partial_refused (IsRefusedPartial.needs idle is) looks =
       let t = state pages old new slot looks in
-      looked pages old new slot looks BeginPartial (Refused NeedsFull) refl (LineOf.needs (phase pages old new slot looks ∙ idle) (need_is new.seen t looks.fine.legal.1 ∙ is))
+      looked pages old new slot looks BeginPartial (Refused NeedsFull) refl (LineOf.needs (phase pages old new slot looks ∙ idle) (need_is new.seen t looks.fine.legal.1 ∙ is)) tt
 
   partly_begun : (r : Result ⊤ Refusal) → BeginsPartialByEvents pages old r new → Commanded pages old BeginPartial (done_reply r) new
   partly_begun (Ok done) g = made pages old new BeginPartial Done slot refl g.1
@@ -99,7 +101,7 @@ module _ (pages : ℕ) (old new : HeapPass) (asked : Event) (reply : Reply) (slo
 
   finished : (r : Result ℕ Refusal) → IsGrantedByOwnEvents true pages old Finish Count r new → Commanded pages old Finish (count_reply r) new
   finished (Ok n) g = made pages old new Finish (Count n) slot refl g.1
-  finished (Err why) g = refused Finish why g.2 refl g.1 (phase pages old new slot g.2 ∙ g.0)
+  finished (Err why) g = refused Finish why g.2 refl g.1 (phase pages old new slot g.2 ∙ g.0) tt
 
   pub finishes : (r : Result ℕ Refusal) → asked ≡ Finish → reply ≡ count_reply r → IsGrantedByOwnEvents true pages old Finish Count r new → Commanded pages old asked reply new
   finishes r is said g = as_asked Finish (count_reply r) is said (finished r g)
@@ -108,23 +110,26 @@ module _ (pages : ℕ) (old new : HeapPass) (asked : Event) (reply : Reply) (slo
   numbers n is said looks c =
       let t = state pages old new slot looks in
       let same : n ≡ collections (opening_start t.pages) t.run = c ∙ (ap (λ (l : List MadeEvent). count rank_of l % 2 ^ 64) looks.mine ∙ sym (number pages old new slot looks)) in
-      as_asked Number (Count n) is said (looked pages old new slot looks Number (Count n) refl (subst (λ (m : ℕ). LineOf (opening_start t.pages) t.run Number (Count m) t.run) (sym same) LineOf.number))
+      as_asked Number (Count n) is said (looked pages old new slot looks Number (Count n) refl (subst (λ (m : ℕ). LineOf (opening_start t.pages) t.run Number (Count m) t.run) (sym same) LineOf.number) tt)
 
   -- the collector's small steps, on a core in the phase that its own events tell
-  module _ (looks : Looks pages old new) (before after : CoreContents) (same : before.cycle.is_marking ≡ marks old.mine) where
+  module _ (looks : Looks pages old new) (before after : CoreContents) (same : before.cycle.is_marking ≡ marks old.mine) (lent : IsLent pages new.seen before after) where
     phase_now : before.cycle.is_marking ≡ is_marking (opening_start (state pages old new slot looks).pages) (state pages old new slot looks).run
     phase_now = same ∙ sym (phase pages old new slot looks)
 
+    answered : (command : Event) (told : Reply) → IsAct before command told after → IsCoresAnswer pages new.seen command told
+    answered command told acts = record { before = before; after = after; lent = lent; acts = acts }
+
     rooted : (r : Result ⊤ Refusal) → IsGrantedInPhase true before r after (λ _. ReadsRoots before after) → Commanded pages old Roots (done_reply r) new
-    rooted (Ok done) g = looked pages old new slot looks Roots Done refl (LineOf.roots (sym phase_now ∙ g.0))
-    rooted (Err why) g = refused Roots why looks refl g.1 (sym phase_now ∙ g.0)
+    rooted (Ok done) g = looked pages old new slot looks Roots Done refl (LineOf.roots (sym phase_now ∙ g.0)) (answered Roots Done (Ok done, refl, g))
+    rooted (Err why) g = refused Roots why looks refl g.1 (sym phase_now ∙ g.0) (answered Roots (Refused why) (Err why, refl, g))
 
     pub roots : (r : Result ⊤ Refusal) → asked ≡ Roots → reply ≡ done_reply r → IsGrantedInPhase true before r after (λ _. ReadsRoots before after) → Commanded pages old asked reply new
     roots r is said g = as_asked Roots (done_reply r) is said (rooted r g)
 
     marked : (most : ℕ) (r : Result ℕ Refusal) → IsGrantedInPhase true before r after (λ n. TakesWords most before n after) → Commanded pages old (Mark most) (count_reply r) new
-    marked most (Ok n) g = looked pages old new slot looks (Mark most) (Count n) refl (LineOf.mark (sym phase_now ∙ g.0) g.1.most)
-    marked most (Err why) g = refused (Mark most) why looks refl g.1 (sym phase_now ∙ g.0)
+    marked most (Ok n) g = looked pages old new slot looks (Mark most) (Count n) refl (LineOf.mark (sym phase_now ∙ g.0) g.1.most) (answered (Mark most) (Count n) (Ok n, refl, g))
+    marked most (Err why) g = refused (Mark most) why looks refl g.1 (sym phase_now ∙ g.0) (answered (Mark most) (Refused why) (Err why, refl, g))
 
     pub marking : (most : ℕ) (r : Result ℕ Refusal) → asked ≡ Mark most → reply ≡ count_reply r → IsGrantedInPhase true before r after (λ n. TakesWords most before n after) → Commanded pages old asked reply new
     marking most r is said g = as_asked (Mark most) (count_reply r) is said (marked most r g)
@@ -134,14 +139,14 @@ module _ (pages : ℕ) (old new : HeapPass) (asked : Event) (reply : Reply) (slo
     one_page n (ReadsPage.page p read) = omega arith
 
     read_again : (r : Result ℕ Refusal) → IsGrantedInPhase true before r after (λ n. RetracesPage before n after) → Commanded pages old Retrace (count_reply r) new
-    read_again (Ok n) g = looked pages old new slot looks Retrace (Count n) refl (LineOf.retrace (sym phase_now ∙ g.0) (one_page n g.1.reads))
-    read_again (Err why) g = refused Retrace why looks refl g.1 (sym phase_now ∙ g.0)
+    read_again (Ok n) g = looked pages old new slot looks Retrace (Count n) refl (LineOf.retrace (sym phase_now ∙ g.0) (one_page n g.1.reads)) (answered Retrace (Count n) (Ok n, refl, g))
+    read_again (Err why) g = refused Retrace why looks refl g.1 (sym phase_now ∙ g.0) (answered Retrace (Refused why) (Err why, refl, g))
 
     pub retraces : (r : Result ℕ Refusal) → asked ≡ Retrace → reply ≡ count_reply r → IsGrantedInPhase true before r after (λ n. RetracesPage before n after) → Commanded pages old asked reply new
     retraces r is said g = as_asked Retrace (count_reply r) is said (read_again r g)
 
     swept : (r : Result ℕ Refusal) → IsAlwaysGranted r (λ n. SweepsOne before n after) → Commanded pages old Sweep (count_reply r) new
-    swept (Ok n) g = looked pages old new slot looks Sweep (Count n) refl (LineOf.sweep g.few)
+    swept (Ok n) g = looked pages old new slot looks Sweep (Count n) refl (LineOf.sweep g.few) (answered Sweep (Count n) (Ok n, refl, g))
     swept (Err why) g = absurd g
 
     pub sweeps : (r : Result ℕ Refusal) → asked ≡ Sweep → reply ≡ count_reply r → IsAlwaysGranted r (λ n. SweepsOne before n after) → Commanded pages old asked reply new
@@ -157,7 +162,7 @@ left_more (x ∷ xs) (y ∷ ys) (suc i) c r lt len =
     rw add-one (ap (λ (es : List MadeEvent). left_by x y ++ es) (rw add-one at (left_more xs ys i c r (omega (arith, lt)) (omega (arith, len)))) ∙ sym (append_assoc (left_by x y) (left_by_all (take i xs) (take i ys)) (left_by (get_or xs i c) r)))
 
 among_longer : (pages : ℕ) (history longer mine : List MadeEvent) (command : Event) (reply : Reply) → IsPrefix history longer → IsAnsweredAmong pages history mine command reply → IsAnsweredAmong pages longer mine command reply
-among_longer pages history longer mine command reply p a = record { so_far = a.so_far; within = prefix_trans a.so_far history longer a.within p; between = a.between; state = a.state; reached = a.reached; allowed = a.allowed }
+among_longer pages history longer mine command reply p a = record { so_far = a.so_far; within = prefix_trans a.so_far history longer a.within p; between = a.between; state = a.state; reached = a.reached; allowed = a.allowed; step = a.step }
 
 -- what was answered stays answered in a longer history
 pub answered_longer : (pages : ℕ) (history longer mine : List MadeEvent) (commands : List Event) (replies : List Reply) → IsPrefix history longer → AreAnswered pages history mine commands replies → AreAnswered pages longer mine commands replies

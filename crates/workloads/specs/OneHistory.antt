@@ -11,9 +11,12 @@ use Rattle.heap_spec.specs.declared.reply.Reply.TheVariants.{Slot, Done, Word, C
 use Rattle.heap_spec.specs.Runs.{opening_start}
 use Rattle.heap_spec.specs.Transcripts.{LineOf}
 use Rattle.heap_spec.specs.SequentialObject.{HeapState, Opens, StateStep}
+use Rattle.heap_core.specs.Acts.{IsAct}
+use Rattle.heap_core.specs.CoreContents.{CoreContents}
 use Rattle.heap_history.specs.Ranks.{rank_of}
 use Rattle.heap_history.specs.Passes.{MadeEvent}
 use Rattle.heap_history.specs.Alone.{all_of}
+use Rattle.shared.specs.Lending.{IsLent}
 use Rattle.workloads.specs.Workloads.{ActorLines}
 use Rattle.workloads.specs.Printing.{ActorReplies}
 
@@ -60,8 +63,23 @@ left_by_all [] replies = []
 left_by_all (command ∷ commands) [] = []
 left_by_all (command ∷ commands) (reply ∷ replies) = left_by command reply ++ left_by_all commands replies
 
+-- Some core answered the command so, which stands before the call and after it for where the history leads.
+pub record IsCoresAnswer (pages : ℕ) (history : List MadeEvent) (command : Event) (reply : Reply) : Type 0 where
+  pub before : CoreContents
+  pub after : CoreContents
+  pub lent : IsLent pages history before after
+  pub acts : IsAct before command reply after
+
+-- A small step of the collector is one of a core: it reads, marks and sweeps what that call of the core does, of the size that was asked for.
+abbrev pub IsStepOfCore : ℕ → List MadeEvent → Event → Reply → Type 0
+IsStepOfCore pages history Roots reply = IsCoresAnswer pages history Roots reply
+IsStepOfCore pages history (Mark n) reply = IsCoresAnswer pages history (Mark n) reply
+IsStepOfCore pages history Retrace reply = IsCoresAnswer pages history Retrace reply
+IsStepOfCore pages history Sweep reply = IsCoresAnswer pages history Sweep reply
+IsStepOfCore pages history command reply = Unit {0}
+
 -- A command that is no event has a reply that a legal transcript allows at a place of the history: at one where the collector's events
--- so far are these.
+-- so far are these; and a small step is one of a core that stands for where the history leads up to there.
 pub record IsAnsweredAmong (pages : ℕ) (history mine : List MadeEvent) (command : Event) (reply : Reply) : Type 0 where
   pub so_far : List MadeEvent
   pub within : IsPrefix so_far history
@@ -69,6 +87,7 @@ pub record IsAnsweredAmong (pages : ℕ) (history mine : List MadeEvent) (comman
   pub state : HeapState
   pub reached : Reaches (Opens pages) StateStep so_far state
   pub allowed : LineOf (opening_start state.pages) state.run command reply state.run
+  pub step : IsStepOfCore pages so_far command reply
 
 -- Commands have these replies, where the collector's events before them are these: each that is no event is answered between the
 -- collector's events before it and those after it.

@@ -242,7 +242,7 @@ pub fn run_recorded<R: Threads + Wait + Sync, G: Gate>(
 ) -> Result<(Replies, Entries), RunError>
     requires some { 1 ≤ setting.now.pages }
     requires most { setting.now.pages ≤ MAX_PAGES }
-    ensures { IfOk result (λ run. Explains setting.now.pages (map made_of run.1.list.items) workload.now run.0) }
+    ensures { IfOk result (λ run. Explains setting.now.pages (map made_of run.1) workload.now run.0) }
 {
     let journal = Journal::new(setting.alloc);
     let (replies, journal) = run_with(setting, journal, workload)?;

@@ -148,8 +148,8 @@ impl Core {
         Ok(count)
     }
 
-    /// Drops a cycle that is marking, and forgets exactly the objects that aren't reached. Answers how many. It is never
-    /// refused.
+    /// Drops a cycle that is marking, and forgets exactly the objects that aren't reached. Answers how many. It reads at most, for
+    /// each object that is left, the words of the pages that it covers. It is never refused.
     pub fn collect(&mut self) -> Result<u64, Refusal>
         ensures { IsAlwaysGranted result (λ n. CollectsAll self.old n self.new) }
     {

@@ -2,7 +2,8 @@
 ghost use Rattle.std.specs.Prelude.{◌≡◌, ℕ, ◌*◌, ◌<◌, ◌≤◌, true, IfOk, length, vec_len, slice_index_or};
 ghost use Rattle.final_pause.specs.declared.helper.Helper.{Helper as HelperValue};
 ghost use Rattle.final_pause.specs.Serving.{IsServing, HasServed};
-ghost use Rattle.final_pause.specs.Rounds.{IsRound, IsFresh, AreServing, AreServed};
+ghost use Rattle.final_pause.specs.Helping.{place_of};
+ghost use Rattle.final_pause.specs.Rounds.{helpers_of, IsRound, IsFresh, AreServing, AreServed};
 ghost use Rattle.heap_core.specs.Sharing.{core_view, MarksTogether};
 
 use super::Core;
@@ -24,7 +25,7 @@ impl Core {
         helpers: Helpers,
     ) -> Result<(Round, Vec<Helper>), AllocError>
         ensures size { IfOk result (λ d. vec_len d.1 ≡ helpers.number) }
-        ensures number { IfOk result (λ d. d.0.helpers ≡ helpers.number) }
+        ensures number { IfOk result (λ d. helpers_of d.0 ≡ helpers.number) }
         ensures round { IfOk result (λ d. IsRound (core_view self.now d.0) d.0) }
         ensures crew { IfOk result (λ d. AreServing (core_view self.now d.0) 0 d.1.items) }
         ensures fresh { IfOk result (λ d. IsFresh (length self.now.store.states) d.0 d.1.items) }
@@ -36,7 +37,7 @@ impl Core {
     // Does a helper's share, and answers how many words it read.
     pub(crate) fn help(&self, round: &Round, most: u64, helper: &mut Helper) -> u64
         requires { IsServing (core_view self.now round.now) helper.old }
-        ensures served { HasServed (core_view self.now round.now) helper.old.place helper.new }
+        ensures served { HasServed (core_view self.now round.now) (place_of helper.old) helper.new }
         ensures few { result ≤ most }
     {
         self.objects.help(round, &self.marker, most, helper)
@@ -46,7 +47,7 @@ impl Core {
     pub(crate) fn gather(&mut self, round: Round, crew: Vec<Helper>)
         requires marking { self.old.cycle.is_marking ≡ true }
         requires round { IsRound (core_view self.old round) round }
-        requires all { vec_len crew ≡ round.helpers }
+        requires all { vec_len crew ≡ helpers_of round }
         requires served { AreServed (core_view self.old round) 0 crew.items }
         ensures { MarksTogether self.old self.new }
     {
@@ -59,7 +60,7 @@ pub(crate) fn help_all(lent: &Lent, most: u64, crew: &mut [Helper]) -> u64
     requires { (i : ℕ) (d : HelperValue) → i < length crew.old → IsServing (core_view lent.now.core.value lent.now.round) (slice_index_or crew.old i d) }
     ensures len { length crew.new ≡ length crew.old }
     ensures few { result ≤ most * length crew.old }
-    ensures served { (i : ℕ) (d : HelperValue) → i < length crew.old → HasServed (core_view lent.now.core.value lent.now.round) (slice_index_or crew.old i d).place (slice_index_or crew.new i d) }
+    ensures served { (i : ℕ) (d : HelperValue) → i < length crew.old → HasServed (core_view lent.now.core.value lent.now.round) (place_of (slice_index_or crew.old i d)) (slice_index_or crew.new i d) }
 {
     let mut read = 0u64;
     for helper in crew {

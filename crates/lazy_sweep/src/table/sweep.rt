@@ -4,7 +4,7 @@ ghost use Rattle.words.specs.declared.limits.TheConstants.{PAGE_GRANULES};
 ghost use Rattle.words.specs.Bits.{Has, IsEmptyFrom};
 ghost use Rattle.block_map.specs.FoundIn.{IsLawful};
 ghost use Rattle.block_map.specs.States.{state_at, IsCut};
-ghost use Rattle.lazy_sweep.specs.Sound.{store_with, AreExactRows, IsSound, SweepsOne, SweepsSome};
+ghost use Rattle.lazy_sweep.specs.Sound.{pending_of, store_with, AreExactRows, IsSound, SweepsOne, SweepsSome};
 ghost use Rattle.lazy_sweep.specs.Sweeps.{SweepsAny};
 
 use super::PageTable;
@@ -18,7 +18,7 @@ impl PageTable {
         requires cut { IsCut (state_at self.old.map page) }
         requires rows { AreExactRows self.old }
         ensures rows { AreExactRows self.new }
-        ensures pending { self.new.pending ≡ slice_set self.old.pending page false }
+        ensures pending { pending_of self.new ≡ slice_set (pending_of self.old) page false }
         ensures pool { self.new.pool ≡ self.old.pool }
         ensures map { self.new.map ≡ self.old.map }
     {
@@ -38,7 +38,7 @@ impl PageTable {
     // Sweeps a page of which no object is kept, as if there were no mark: none of its cells is looked at.
     fn free_page(&mut self, page: PageNo)
         requires inside { page < length self.old.map }
-        requires was { Has self.old.pending page }
+        requires was { Has (pending_of self.old) page }
         requires sound { IsSound self.old }
         ensures { SweepsOne self.old [] page self.new }
     {
@@ -54,7 +54,7 @@ impl PageTable {
     // Sweeps the cells of a page. One that keeps no object is free at once.
     fn sweep_cells(&mut self, page: PageNo, marks: &BitRow)
         requires inside { page < length self.old.map }
-        requires was { Has self.old.pending page }
+        requires was { Has (pending_of self.old) page }
         requires marks { PAGE_GRANULES * length self.old.map ≤ length marks.now }
         requires sound { IsSound self.old }
         ensures { SweepsOne self.old marks.now page self.new }
@@ -76,7 +76,7 @@ impl PageTable {
     pub(super) fn sweep_page(&mut self, marker: &Marker, page: PageNo)
         requires pages { length marker.now.dirty ≡ length self.old.map }
         requires inside { page < length self.old.map }
-        requires was { Has self.old.pending page }
+        requires was { Has (pending_of self.old) page }
         requires sound { IsSound self.old }
         ensures sweeps { SweepsOne self.old marker.now.marks page self.new }
         ensures lawful { IsLawful self.old.map }
@@ -95,10 +95,10 @@ impl PageTable {
         requires pages { length marker.now.dirty ≡ length self.old.map }
         requires sound { IsSound self.old }
         ensures sweeps { SweepsSome self.old marker.now.marks self.new }
-        ensures none { result ≡ false → IsEmptyFrom self.old.pending 0 }
+        ensures none { result ≡ false → IsEmptyFrom (pending_of self.old) 0 }
         ensures same { result ≡ false → self.new ≡ self.old }
         ensures page { result ≡ true → (words : List ℕ) → SweepsAny (store_with words self.old) marker.now.marks (store_with words self.new) }
-        ensures fewer { result ≡ true → count_by (λ b. b) self.new.pending + 1 ≡ count_by (λ b. b) self.old.pending }
+        ensures fewer { result ≡ true → count_by (λ b. b) (pending_of self.new) + 1 ≡ count_by (λ b. b) (pending_of self.old) }
     {
         self.map.laws();
         let Some(page) = self.pending.first() else {
@@ -113,7 +113,7 @@ impl PageTable {
         requires pages { length marker.now.dirty ≡ length self.old.map }
         requires sound { IsSound self.old }
         ensures sweeps { SweepsSome self.old marker.now.marks self.new }
-        ensures swept { IsEmptyFrom self.new.pending 0 }
+        ensures swept { IsEmptyFrom (pending_of self.new) 0 }
     {
         self.map.laws();
         while self.step(marker) {}

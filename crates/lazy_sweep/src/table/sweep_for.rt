@@ -3,7 +3,7 @@ ghost use Rattle.std.specs.Prelude.{◌≡◌, ℕ, ◌<◌, ◌⊎◌, IfNone, 
 ghost use Rattle.words.specs.Bits.{Has};
 ghost use Rattle.block_map.specs.States.{state_at, IsBlockFor};
 ghost use Rattle.lazy_sweep.specs.AvailableRows.{AreWaiting, HasNoFreeCell, IsAvailable};
-ghost use Rattle.lazy_sweep.specs.Sound.{AreExactRows, IsSound, SweepsSome};
+ghost use Rattle.lazy_sweep.specs.Sound.{pending_of, waiting_of, AreExactRows, IsSound, SweepsSome};
 
 use super::PageTable;
 use marker::Marker;
@@ -13,9 +13,9 @@ impl PageTable {
     // The lowest pending page that is cut for the class and the kind.
     #[inline]
     fn pending_for(&self, class: Class, kind: Kind) -> Option<PageNo>
-        requires { AreWaiting self.now.waiting self.now.map self.now.pending }
-        ensures some { IfSome result (λ page. Has self.now.pending page × (page < length self.now.map)) }
-        ensures none { IfNone result ((page : ℕ) → Has self.now.pending page → IsBlockFor (state_at self.now.map page) class kind → ⊥) }
+        requires { AreWaiting (waiting_of self.now) self.now.map (pending_of self.now) }
+        ensures some { IfSome result (λ page. Has (pending_of self.now) page × (page < length self.now.map)) }
+        ensures none { IfNone result ((page : ℕ) → Has (pending_of self.now) page → IsBlockFor (state_at self.now.map page) class kind → ⊥) }
     {
         self.map.laws();
         let Some(page) = self.waiting.first(class, kind) else {
@@ -29,7 +29,7 @@ impl PageTable {
     fn page_for(&self, class: Class, kind: Kind) -> Option<PageNo>
         requires rows { AreExactRows self.now }
         ensures inside { IfSome result (λ page. page < length self.now.map) }
-        ensures some { IfSome result (λ page. Has self.now.pending page ⊎ IsAvailable (state_at self.now.map page) class kind) }
+        ensures some { IfSome result (λ page. Has (pending_of self.now) page ⊎ IsAvailable (state_at self.now.map page) class kind) }
         ensures none { IfNone result (HasNoFreeCell self.now.map class kind) }
     {
         self.map.laws();
@@ -46,7 +46,7 @@ impl PageTable {
         requires pages { length marker.now.dirty ≡ length self.old.map }
         requires sound { IsSound self.old }
         ensures sweeps { SweepsSome self.old marker.now.marks self.new }
-        ensures some { IfSome result (λ page. IsAvailable (state_at self.new.map page) class kind × (Has self.new.pending page → ⊥)) }
+        ensures some { IfSome result (λ page. IsAvailable (state_at self.new.map page) class kind × (Has (pending_of self.new) page → ⊥)) }
         ensures none { IfNone result (HasNoFreeCell self.new.map class kind) }
     {
         self.map.laws();

@@ -1,6 +1,6 @@
 use Rattle.std.proofs.Common.{ℕ, ◌+◌, ◌*◌, ◌<◌, subst, arith}
 use Rattle.std.specs.Int.{trailing_zeros, w64}
-use Rattle.blocks.proofs.Rests.{rest_all, rest_first, rest_more, rest_none}
+use Rattle.marker.proofs.Rests.{rest_all, rest_first, rest_more, rest_none}
 use Rattle.mark_bits.specs.Tables.{view}
 use Rattle.final_pause.specs.Pauses.{pause_view}
 use Rattle.final_pause.specs.Serving.{AreObjectsRead}

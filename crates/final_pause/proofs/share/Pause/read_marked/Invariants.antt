@@ -1,5 +1,5 @@
 use Rattle.std.proofs.Common.{ℕ, ◌+◌, ◌*◌}
-use Rattle.blocks.proofs.Rests.{IsRest}
+use Rattle.marker.proofs.Rests.{IsRest}
 use Rattle.mark_bits.specs.Tables.{view}
 use Rattle.final_pause.specs.Pauses.{pause_view}
 use Rattle.final_pause.specs.Serving.{GoesOnServing, AreObjectsRead}

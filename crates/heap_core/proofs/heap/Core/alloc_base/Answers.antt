@@ -49,11 +49,11 @@ invariant_of-self-2 c =
     (traced_object _ _ (record { marker = c.self.inside.marker; is_marking = c.self.inside.is_marking; needs_full = c.self.inside.needs_full; count = c.self.inside.count; reads = c.self.inside.reads }) _ _ _ _ (traced_swept _ a.ready _ c.self.invariant.traced a.sweeps) a.gains c.note_object.ensures refl refl)
     c.args.slot (Alloc c.args.into c.args.words c.args.kind) Done tt
     (allocated _ _ _ _ _ _ _ _ _ _ _ _ _ c.in_ok-attached.field-0.now c.in_ok-attached.ensures.ok (sym (rw c.in_ok-placement.ensures.ok_part at c.placement.ensures.placement)) a.sweeps a.room a.gains c.set_word.ensures c.note_object.ensures
-    (unmarked_new a.ready _ (record { marker = c.self.inside.marker; is_marking = c.self.inside.is_marking; needs_full = c.self.inside.needs_full; count = c.self.inside.count; reads = c.self.inside.reads }) _ _ _ (traced_swept _ a.ready (record { marker = c.self.inside.marker; is_marking = c.self.inside.is_marking; needs_full = c.self.inside.needs_full; count = c.self.inside.count; reads = c.self.inside.reads }) c.self.invariant.traced a.sweeps).objects a.gains) refl refl refl (c.allocate.ensures.cuts))
+    (unmarked_new a.ready _ (record { marker = c.self.inside.marker; is_marking = c.self.inside.is_marking; needs_full = c.self.inside.needs_full; count = c.self.inside.count; reads = c.self.inside.reads }) _ _ _ (traced_swept _ a.ready (record { marker = c.self.inside.marker; is_marking = c.self.inside.is_marking; needs_full = c.self.inside.needs_full; count = c.self.inside.count; reads = c.self.inside.reads }) c.self.invariant.traced a.sweeps).objects a.gains) refl refl refl refl (c.allocate.ensures.cuts))
 
 pub returns-clause-call : goal.returns-clause-call
 returns-clause-call c =
     let a = rw c.in_ok-base.ensures.ok_part at c.allocate.ensures.places in
     rw (← c.self.view_is)
     (allocated _ _ _ _ _ _ _ _ _ _ _ _ _ c.in_ok-attached.field-0.now c.in_ok-attached.ensures.ok (sym (rw c.in_ok-placement.ensures.ok_part at c.placement.ensures.placement)) a.sweeps a.room a.gains c.set_word.ensures c.note_object.ensures
-    (unmarked_new a.ready _ (record { marker = c.self.inside.marker; is_marking = c.self.inside.is_marking; needs_full = c.self.inside.needs_full; count = c.self.inside.count; reads = c.self.inside.reads }) _ _ _ (traced_swept _ a.ready (record { marker = c.self.inside.marker; is_marking = c.self.inside.is_marking; needs_full = c.self.inside.needs_full; count = c.self.inside.count; reads = c.self.inside.reads }) c.self.invariant.traced a.sweeps).objects a.gains) refl refl refl (c.allocate.ensures.cuts))
+    (unmarked_new a.ready _ (record { marker = c.self.inside.marker; is_marking = c.self.inside.is_marking; needs_full = c.self.inside.needs_full; count = c.self.inside.count; reads = c.self.inside.reads }) _ _ _ (traced_swept _ a.ready (record { marker = c.self.inside.marker; is_marking = c.self.inside.is_marking; needs_full = c.self.inside.needs_full; count = c.self.inside.count; reads = c.self.inside.reads }) c.self.invariant.traced a.sweeps).objects a.gains) refl refl refl refl (c.allocate.ensures.cuts))

@@ -20,7 +20,7 @@ returns c =
     rw (← c.self.view_is)
     (collects_all _ c.sweep_all.new.self c.begin.new.self _ _ _ _ _ _ _ c.collect-count.ensures.lawful.map c.sweep_all.ensures.sweeps c.sweep_all.ensures.swept (subst (λ n. IsBlank n c.begin.new.self) (c.self.invariant.traced.pages ∙ sym c.sweep_all.ensures.sweeps.pages) c.begin.ensures.blank)
     (subst (λ rs. ForgetsUnreached c.sweep_all.new.self rs c.begin.new.self c.collect-count.result c.collect-count.new.marker.marks c.collect-count.new.self) e c.collect-count.ensures.forgets) c.collect-count.ensures.swept c.collect-count.ensures.done
-    (subst (λ rs. Traces (found_in c.sweep_all.new.self.states) c.sweep_all.new.self.words rs c.begin.new.self c.collect-count.new.marker) e c.collect-count.ensures.traces) refl c.take_along.ensures.lawful.map c.take_along.ensures.along c.take_along.ensures.links c.collect-count.ensures.all)
+    (subst (λ rs. Traces (found_in c.sweep_all.new.self.states) c.sweep_all.new.self.words rs c.begin.new.self c.collect-count.new.marker) e c.collect-count.ensures.traces) refl c.take_along.ensures.lawful.map c.take_along.ensures.along c.take_along.ensures.links c.collect-count.ensures.objects c.collect-count.ensures.reads c.collect-count.ensures.all)
 
 pub invariant_of-self : goal.invariant_of-self
 invariant_of-self c =
@@ -30,4 +30,4 @@ invariant_of-self c =
     c.collect-count.result
     (collects_all _ c.sweep_all.new.self c.begin.new.self _ _ _ _ _ _ _ c.collect-count.ensures.lawful.map c.sweep_all.ensures.sweeps c.sweep_all.ensures.swept (subst (λ n. IsBlank n c.begin.new.self) (c.self.invariant.traced.pages ∙ sym c.sweep_all.ensures.sweeps.pages) c.begin.ensures.blank)
     (subst (λ rs. ForgetsUnreached c.sweep_all.new.self rs c.begin.new.self c.collect-count.result c.collect-count.new.marker.marks c.collect-count.new.self) e c.collect-count.ensures.forgets) c.collect-count.ensures.swept c.collect-count.ensures.done
-    (subst (λ rs. Traces (found_in c.sweep_all.new.self.states) c.sweep_all.new.self.words rs c.begin.new.self c.collect-count.new.marker) e c.collect-count.ensures.traces) refl c.take_along.ensures.lawful.map c.take_along.ensures.along c.take_along.ensures.links c.collect-count.ensures.all)
+    (subst (λ rs. Traces (found_in c.sweep_all.new.self.states) c.sweep_all.new.self.words rs c.begin.new.self c.collect-count.new.marker) e c.collect-count.ensures.traces) refl c.take_along.ensures.lawful.map c.take_along.ensures.along c.take_along.ensures.links c.collect-count.ensures.objects c.collect-count.ensures.reads c.collect-count.ensures.all)

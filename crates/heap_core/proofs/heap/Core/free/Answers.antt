@@ -47,9 +47,9 @@ invariant_of-self c =
     (rw (sym c.if-found-word.false) at c.note_free.ensures.freed) refl c.note_free.ensures.needs (rw (sym c.if-found-word.false) at c.note_free.ensures.keeps)) c.take_along.ensures.along)
     c.args.slot (Free c.args.reg) Done tt
     (freed _ _ _ _ _ _ _ _ _ c.in_ok-mutator.mutator.now c.in_ok-found.found c.in_ok-found.ensures.lawful c.in_ok-mutator.ensures.ok
-    (rw c.word-word.ensures at (sym c.in_ok-found.ensures.ok)) (rw c.word-word.ensures at c.if-found-word.false) c.release.ensures (rw (sym c.if-found-word.false) at c.note_free.ensures.freed) refl refl c.take_along.ensures.lawful c.take_along.ensures.along c.take_along.ensures.links c.note_free.ensures.needs)
+    (rw c.word-word.ensures at (sym c.in_ok-found.ensures.ok)) (rw c.word-word.ensures at c.if-found-word.false) c.release.ensures (rw (sym c.if-found-word.false) at c.note_free.ensures.freed) refl refl refl c.take_along.ensures.lawful c.take_along.ensures.along c.take_along.ensures.links c.note_free.ensures.needs)
 
 pub returns : goal.returns
 returns c = rw (← c.self.view_is)
     (freed _ _ _ _ _ _ _ _ _ c.in_ok-mutator.mutator.now c.in_ok-found.found c.in_ok-found.ensures.lawful c.in_ok-mutator.ensures.ok
-    (rw c.word-word.ensures at (sym c.in_ok-found.ensures.ok)) (rw c.word-word.ensures at c.if-found-word.false) c.release.ensures (rw (sym c.if-found-word.false) at c.note_free.ensures.freed) refl refl c.take_along.ensures.lawful c.take_along.ensures.along c.take_along.ensures.links c.note_free.ensures.needs)
+    (rw c.word-word.ensures at (sym c.in_ok-found.ensures.ok)) (rw c.word-word.ensures at c.if-found-word.false) c.release.ensures (rw (sym c.if-found-word.false) at c.note_free.ensures.freed) refl refl refl c.take_along.ensures.lawful c.take_along.ensures.along c.take_along.ensures.links c.note_free.ensures.needs)

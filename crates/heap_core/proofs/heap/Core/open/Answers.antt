@@ -29,6 +29,8 @@ returns c = (
     };
     phase = refl;
     count = refl;
+    last_reads = c.new-6.ensures.last;
+    all_reads = c.new-6.ensures.all;
     needs_full = refl;
     swept = c.in_ok-objects.ensures.1.0;
     blank = c.in_ok-marker.ensures.1;

@@ -53,7 +53,7 @@ invariant_of-self c = legal_called _ _ c.self.invariant
     (rw c.address-target.ensures at c.if-target-ne0.false)
     (rw c.address-target.ensures at (sym c.in_ok-find_in.ensures.ok))
     (rw (c.address-target.ensures, c.word-word.ensures) at c.write.ensures)
-    (rw c.address-target.ensures at c.note_write.ensures) refl refl refl)
+    (rw c.address-target.ensures at c.note_write.ensures) refl refl refl refl)
 
 pub returns : goal.returns
 returns c = rw (← c.self.view_is)
@@ -61,4 +61,4 @@ returns c = rw (← c.self.view_is)
     (rw c.address-target.ensures at c.if-target-ne0.false)
     (rw c.address-target.ensures at (sym c.in_ok-find_in.ensures.ok))
     (rw (c.address-target.ensures, c.word-word.ensures) at c.write.ensures)
-    (rw c.address-target.ensures at c.note_write.ensures) refl refl refl)
+    (rw c.address-target.ensures at c.note_write.ensures) refl refl refl refl)

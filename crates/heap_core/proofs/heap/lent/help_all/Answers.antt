@@ -2,6 +2,7 @@ use Rattle.std.proofs.Common.{◌≡◌, ◌∙◌, ℕ, get_or, set, sym, ap, s
 use Rattle.std.proofs.lemmas.Bool.{cases_eq}
 use Rattle.std.proofs.lemmas.List.{get_or_default, get_or-set_same, get_or-set_other, length-set}
 use Rattle.final_pause.specs.declared.helper.Helper.{Helper}
+use Rattle.final_pause.specs.Helping.{place_of}
 use Rattle.final_pause.specs.Serving.{IsServing, HasServed}
 use Rattle.heap_core.specs.CoreContents.{CoreContents}
 use Rattle.heap_core.specs.Sharing.{core_view}
@@ -28,9 +29,9 @@ loop-helper-preserved c =
           let h = c.helper-item.result in
           let was : get_or items at h ≡ get_or c.args.crew.now i d = inv.rest at h (omega arith) ∙ (get_or_default c.args.crew.now at h d test ∙ ap (λ (n : ℕ). get_or c.args.crew.now n d) (sym e)) in
           let is : new ≡ get_or (set items at new) i d = sym (ap (λ (n : ℕ). get_or (set items at new) n d) e ∙ get_or-set_same items at new d (omega (arith, test, size))) in
-          let served : HasServed p (get_or items at h).place new = subst (λ (core : CoreContents). HasServed (core_view core c.args.lent.now.round) (get_or items at h).place new) c.deref.ensures c.help.ensures.served in
-          subst (λ (k : Helper). HasServed p k.place (get_or (set items at new) i d)) was (subst (HasServed p (get_or items at h).place) is served))
-          (λ ne. subst (HasServed p (get_or c.args.crew.now i d).place) (sym (get_or-set_other items at i new d ne)) (inv.done i d (omega (arith, lt, ne))))
+          let served : HasServed p (place_of (get_or items at h)) new = subst (λ (core : CoreContents). HasServed (core_view core c.args.lent.now.round) (place_of (get_or items at h)) new) c.deref.ensures c.help.ensures.served in
+          subst (λ (k : Helper). HasServed p (place_of k) (get_or (set items at new) i d)) was (subst (HasServed p (place_of (get_or items at h))) is served))
+          (λ ne. subst (HasServed p (place_of (get_or c.args.crew.now i d))) (sym (get_or-set_other items at i new d ne)) (inv.done i d (omega (arith, lt, ne))))
           (cases_eq i at);
       rest = λ i d le. get_or-set_other items at i new d (λ e. absurd (omega (arith, le, e))) ∙ inv.rest i d (omega (arith, le));
     }

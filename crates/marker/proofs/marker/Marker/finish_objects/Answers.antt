@@ -59,7 +59,7 @@ abbrev object : After-from-read → Found
 object c = (is_begun c).object
 
 entry_is : (c : After-from-read) → entry_begun (one c) ≡ entry_of (object c)
-entry_is c = ap (λ (n : ℕ). record { base = n; next = 0 }) (sym (is_begun c).unread.base)
+entry_is c = λ i. record { base = sym (is_begun c).unread.base i; next = 0; len = (is_begun c).len i }
 
 row : (c : After-from-read) → MarksRow (found_in c.args.map.now) c.args.reader.now.moments (object c) 0 (object c).len (bytes_of c.loop-k.self) (page_of (word_address (object c) 0)) c.loop-k.self c.mark_begun.new.self
 row c =

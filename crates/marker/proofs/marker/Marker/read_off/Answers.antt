@@ -49,7 +49,7 @@ returns-then-count-left-clause-takes c =
     let r = c.read_on-count.ensures.read.reads in
     let at = (goal.at.returns-then-count-left-clause-takes c).After-read_on-count in
     let w = whole_takes found moments c.read_on-count.new.self c.read_wholes-count.new.self c.read_wholes-count.result (wholes (goal.at.returns-then-count-left-clause-takes c).After-read_wholes-count)
-    (read_on r.live.entry c.read_on-count.result) (ap (λ (m : Marking). m.current) r.new_is) (done at c.if-count-left.true) in
+    (read_on r.object r.live.entry c.read_on-count.result) (ap (λ (m : Marking). m.current) r.new_is) (done at c.if-count-left.true) in
     let b : Marking = with_current c.read_wholes-count.new.self w.0 in
     settled
     (takes_trans found moments c.args.self.now c.read_on-count.new.self (first at) w.2)

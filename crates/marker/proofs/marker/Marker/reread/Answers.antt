@@ -1,4 +1,4 @@
-use Rattle.std.proofs.Common.{length, ℕ, ◌≡◌, ◌+◌, ◌*◌, ◌<◌, ◌≤◌, true, false, sym, subst, rules, arith}
+use Rattle.std.proofs.Common.{length, ℕ, ◌≡◌, ◌+◌, ◌*◌, ◌<◌, ◌≤◌, true, false, refl, sym, subst, rules, arith}
 use Rattle.words.specs.declared.limits.TheConstants.{PAGE_BYTES}
 use Rattle.words.specs.Layout.{page_of}
 use Rattle.marker.specs.Marking.{word_address}
@@ -19,9 +19,6 @@ part_between-part-requires c =
 pub has_words_to_read-requires-clause-inside : goal.has_words_to_read-requires-clause-inside
 has_words_to_read-requires-clause-inside c =
     (markable (length c.args.map.now) _ _ c.args.found _ c.requires.lawful.map c.requires.next.reads (marks_of _ _ c.laws.ensures c.requires.pages)).1
-
-pub mark_words-requires-clause-placed : goal.mark_words-requires-clause-placed
-mark_words-requires-clause-placed c = c.requires.lawful.map.placed c.requires.next.at c.args.found c.requires.next.reads
 
 pub returns-then-not-has_words_to_read-clause-rereads : goal.returns-then-not-has_words_to_read-clause-rereads
 returns-then-not-has_words_to_read-clause-rereads c =
@@ -51,11 +48,11 @@ returns-clause-rereads c =
     let t : c.has_words_to_read.result ≡ true = search rules in
     let is = c.has_words_to_read.ensures.yes t in
     rereads_words (length c.args.map.now) (found_in c.args.map.now) c.requires.lawful.map c.args.reader.now.words c.args.low c.args.high c.part_between-part.result.stop _ _ _ c.args.found _ _ (one c)
-    (subst (λ (k : ℕ). CarriesPage (found_in c.args.map.now) (PAGE_BYTES * k) (words_from c.args.reader.now.words c.args.found c.part_between-part.result.first c.part_between-part.result.count) (page_of (word_address c.args.found c.part_between-part.result.first)) c.args.self.now.carried c.mark_words.new.self.carried) (sym c.requires.pages) (row_carries (found_in c.args.map.now) c.args.reader.now.words c.args.reader.now.moments c.args.found c.part_between-part.result.first c.part_between-part.result.count _ _ c.requires.one_page.0 c.args.self.now c.mark_words.new.self c.requires.one_page.3 (at_base (length c.args.map.now) (found_in c.args.map.now) c.requires.lawful.map c.requires.next.at c.args.found c.requires.next.reads) is.0 p.fits (on_page c) c.mark_words.ensures.row))
+    (subst (λ (k : ℕ). CarriesPage (found_in c.args.map.now) (PAGE_BYTES * k) (words_from c.args.reader.now.words c.args.found c.part_between-part.result.first c.part_between-part.result.count) (page_of (word_address c.args.found c.part_between-part.result.first)) c.args.self.now.carried c.mark_words.new.self.carried) (sym c.requires.pages) (row_carries (found_in c.args.map.now) c.args.reader.now.words c.args.reader.now.moments c.args.found c.part_between-part.result.first c.part_between-part.result.count _ _ c.requires.one_page.0 c.args.self.now c.mark_words.new.self c.requires.one_page.3 (at_base (length c.args.map.now) (found_in c.args.map.now) c.requires.lawful.map c.requires.next.at c.args.found c.requires.next.reads) is.0 p.fits (on_page c) (c.mark_words.ensures.row c.args.found refl)))
     (marks_of _ _ c.laws.ensures c.requires.pages) c.requires.next p.inside
     (at_base (length c.args.map.now) (found_in c.args.map.now) c.requires.lawful.map c.requires.next.at c.args.found c.requires.next.reads)
     is.0 is.1 p.fits p.reaches p.back p.ends
-    (row_marks (found_in c.args.map.now) c.args.reader.now.words c.args.reader.now.moments c.args.found c.part_between-part.result.first c.part_between-part.result.count _ _ c.requires.one_page.0 c.args.self.now c.mark_words.new.self c.requires.one_page.3 (at_base (length c.args.map.now) (found_in c.args.map.now) c.requires.lawful.map c.requires.next.at c.args.found c.requires.next.reads) is.0 p.fits (on_page c) c.mark_words.ensures.row)
+    (row_marks (found_in c.args.map.now) c.args.reader.now.words c.args.reader.now.moments c.args.found c.part_between-part.result.first c.part_between-part.result.count _ _ c.requires.one_page.0 c.args.self.now c.mark_words.new.self c.requires.one_page.3 (at_base (length c.args.map.now) (found_in c.args.map.now) c.requires.lawful.map c.requires.next.at c.args.found c.requires.next.reads) is.0 p.fits (on_page c) (c.mark_words.ensures.row c.args.found refl))
 
 pub returns-clause-reads : goal.returns-clause-reads
 returns-clause-reads c =
@@ -63,9 +60,15 @@ returns-clause-reads c =
     let b = p.back c.part_between-part.result.first (omega arith) in
     let k = c.mark_words.ensures.counted in omega arith
 
-pub mark_words-requires-clause-one_page : goal.mark_words-requires-clause-one_page
-mark_words-requires-clause-one_page c i from below =
+pub mark_words-requires-clause-row : goal.mark_words-requires-clause-row
+mark_words-requires-clause-row c =
     let p = c.part_between-part.ensures in
-    let a = p.back i from in let b = p.back c.part_between-part.result.first (omega arith) in
     let e = p.ends in let w = p.within in
-    let low = c.requires.one_page.1 in let high = c.requires.one_page.2 in omega arith
+    let low = c.requires.one_page.1 in let high = c.requires.one_page.2 in
+    record {
+      object = c.args.found;
+      at = refl;
+      placed = c.requires.lawful.map.placed c.requires.next.at c.args.found c.requires.next.reads;
+      fits = p.fits;
+      one_page = λ i from below. (let a = p.back i from in let b = p.back c.part_between-part.result.first (omega arith) in omega arith);
+    }

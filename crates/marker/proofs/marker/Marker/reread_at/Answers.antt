@@ -21,14 +21,17 @@ pub object_in_block-found-requires-clause-base : goal.object_in_block-found-requ
 object_in_block-found-requires-clause-base c =
     let on = c.requires.on in marked_cell c.args.map.now c.args.page c.args.granule c.args.block.now c.args.self.now c.requires.lawful.map c.requires.objects c.requires.marked c.requires.cut on.0 on.1
 
-pub mark_object-requires-clause-placed : goal.mark_object-requires-clause-placed
-mark_object-requires-clause-placed c = c.requires.lawful.map.placed _ c.object_in_block-found.result (here (goal.at.mark_object-requires-clause-placed c).After-laws ∙ c.object_in_block-found.ensures.object)
-
-pub mark_object-requires-clause-one_page : goal.mark_object-requires-clause-one_page
-mark_object-requires-clause-one_page c i from below =
+pub mark_object-requires-clause-row : goal.mark_object-requires-clause-row
+mark_object-requires-clause-row c =
     let base : c.object_in_block-found.result.base ≡ FIRST_ADDRESS + GRANULE_BYTES * c.args.granule = c.object_in_block-found.ensures.base in
     let ends = c.object_in_block-found.ensures.on_page in let on = c.requires.on in let low = on.0 in let high = on.1 in
-    omega arith
+    record {
+      object = c.object_in_block-found.result;
+      at = refl;
+      placed = c.requires.lawful.map.placed _ c.object_in_block-found.result (here (goal.at.mark_object-requires-clause-row c).After-laws ∙ c.object_in_block-found.ensures.object);
+      fits = omega arith;
+      one_page = λ i from below. omega arith;
+    }
 
 -- the object's words stand on the page
 on_page : (c : After-mark_object) (i : ℕ) → 0 ≤ i → i < 0 + c.object_in_block-found.result.len → page_of (word_address c.object_in_block-found.result i) ≡ c.args.page
@@ -46,9 +49,9 @@ returns-clause-rereads c =
     objects_words (length c.args.map.now) (found_in c.args.map.now) c.requires.lawful.map c.args.reader.now.words c.args.self.now (page_start (c.args.page + 1)) c.args.granule (c.object_in_block-found.result.base + WORD_BYTES * c.object_in_block-found.result.len) c.object_in_block-found.result.len
     c.args.reader.now.reads c.mark_object.new.reader.reads (page_of (word_address c.object_in_block-found.result 0)) c.object_in_block-found.result c.args.self.now c.mark_object.new.self
     (λ i from below. omega arith)
-    (subst (λ (k : ℕ). CarriesPage (found_in c.args.map.now) (PAGE_BYTES * k) (words_from c.args.reader.now.words c.object_in_block-found.result 0 c.object_in_block-found.result.len) (page_of (word_address c.object_in_block-found.result 0)) c.args.self.now.carried c.mark_object.new.self.carried) (sym c.requires.pages) (row_carries (found_in c.args.map.now) c.args.reader.now.words c.args.reader.now.moments c.object_in_block-found.result 0 c.object_in_block-found.result.len _ _ c.args.page c.args.self.now c.mark_object.new.self c.requires.still (at_base (length c.args.map.now) (found_in c.args.map.now) c.requires.lawful.map _ c.object_in_block-found.result is) (ap (λ (x : Found). x.kind) (block_object c.args.page _ c.args.block.now c.object_in_block-found.result c.object_in_block-found.ensures.object).0 ∙ c.requires.normal) (omega arith) (on_page (goal.at.returns-clause-rereads c).After-mark_object) c.mark_object.ensures.row))
+    (subst (λ (k : ℕ). CarriesPage (found_in c.args.map.now) (PAGE_BYTES * k) (words_from c.args.reader.now.words c.object_in_block-found.result 0 c.object_in_block-found.result.len) (page_of (word_address c.object_in_block-found.result 0)) c.args.self.now.carried c.mark_object.new.self.carried) (sym c.requires.pages) (row_carries (found_in c.args.map.now) c.args.reader.now.words c.args.reader.now.moments c.object_in_block-found.result 0 c.object_in_block-found.result.len _ _ c.args.page c.args.self.now c.mark_object.new.self c.requires.still (at_base (length c.args.map.now) (found_in c.args.map.now) c.requires.lawful.map _ c.object_in_block-found.result is) (ap (λ (x : Found). x.kind) (block_object c.args.page _ c.args.block.now c.object_in_block-found.result c.object_in_block-found.ensures.object).0 ∙ c.requires.normal) (omega arith) (on_page (goal.at.returns-clause-rereads c).After-mark_object) (c.mark_object.ensures.row c.object_in_block-found.result refl)))
     (marks_of _ _ c.laws.ensures c.requires.pages) (omega arith)
     (at_base (length c.args.map.now) (found_in c.args.map.now) c.requires.lawful.map _ c.object_in_block-found.result is)
     (ap (λ (x : Found). x.kind) (block_object c.args.page _ c.args.block.now c.object_in_block-found.result c.object_in_block-found.ensures.object).0 ∙ c.requires.normal)
     (subst (Has c.args.self.now.marks) (omega arith) c.requires.marked) (omega arith) (omega arith) refl (omega arith) (inl (omega arith)) (omega arith)
-    (row_marks (found_in c.args.map.now) c.args.reader.now.words c.args.reader.now.moments c.object_in_block-found.result 0 c.object_in_block-found.result.len _ _ c.args.page c.args.self.now c.mark_object.new.self c.requires.still (at_base (length c.args.map.now) (found_in c.args.map.now) c.requires.lawful.map _ c.object_in_block-found.result is) (ap (λ (x : Found). x.kind) (block_object c.args.page _ c.args.block.now c.object_in_block-found.result c.object_in_block-found.ensures.object).0 ∙ c.requires.normal) (omega arith) (on_page (goal.at.returns-clause-rereads c).After-mark_object) c.mark_object.ensures.row)
+    (row_marks (found_in c.args.map.now) c.args.reader.now.words c.args.reader.now.moments c.object_in_block-found.result 0 c.object_in_block-found.result.len _ _ c.args.page c.args.self.now c.mark_object.new.self c.requires.still (at_base (length c.args.map.now) (found_in c.args.map.now) c.requires.lawful.map _ c.object_in_block-found.result is) (ap (λ (x : Found). x.kind) (block_object c.args.page _ c.args.block.now c.object_in_block-found.result c.object_in_block-found.ensures.object).0 ∙ c.requires.normal) (omega arith) (on_page (goal.at.returns-clause-rereads c).After-mark_object) (c.mark_object.ensures.row c.object_in_block-found.result refl))

@@ -1,7 +1,7 @@
 use Rattle.std.proofs.Common.{◌≡◌, ℕ, ◌+◌, ◌*◌, ◌/◌, ◌%◌, ◌<◌, ◌∙◌, ◌==◌, Bool, false, get_or, List, length, refl, sym, ap, subst, arith}
 use Rattle.std.specs.Int.{bit_at, trailing_zeros, w64}
 use Rattle.words.specs.Layout.{page_start}
-use Rattle.blocks.proofs.Rests.{rest_all, rest_first, rest_more, rest_none}
+use Rattle.marker.proofs.Rests.{rest_all, rest_first, rest_more, rest_none}
 use Rattle.block_map.specs.FoundIn.{found_in}
 use Rattle.marker.specs.Marking.{Marking}
 use Rattle.marker.specs.Retracing.{RereadsObjects}

@@ -1,6 +1,6 @@
 use Rattle.std.proofs.Common.{◌≡◌, ℕ, ◌+◌, ◌*◌}
 use Rattle.words.specs.Layout.{page_start}
-use Rattle.blocks.proofs.Rests.{IsRest}
+use Rattle.marker.proofs.Rests.{IsRest}
 use Rattle.block_map.specs.FoundIn.{found_in}
 use Rattle.marker.specs.Marking.{AreMarksObjects}
 use Rattle.marker.specs.Retracing.{RereadsObjects}

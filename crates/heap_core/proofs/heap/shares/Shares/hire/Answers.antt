@@ -1,6 +1,7 @@
 use Rattle.std.proofs.Common.{◌≡◌, ℕ, ◌+◌, ◌++◌, ◌∷◌, [], List, length, refl, ap, subst, sym, ◌∙◌, arith}
 use Rattle.std.proofs.lemmas.List.{length-append}
 use Rattle.final_pause.specs.declared.helper.Helper.{Helper}
+use Rattle.final_pause.specs.Rounds.{helpers_of}
 use Rattle.final_pause.specs.Serving.{HasServed}
 use Rattle.heap_core.specs.declared.heap.lent.Lent.{Lent}
 use Rattle.heap_core.specs.Sharing.{IsSharing, core_view}
@@ -24,7 +25,7 @@ invariant_of-result c =
           let one : length c.push.new.self.items ≡ 1 = ap length alone in
           let least = i.inside in omega (arith, size, one, at, least);
       room =
-          let number : c.helpers.result ≡ lent.round.helpers = c.helpers.ensures ∙ ap (λ (l : Lent). l.round.helpers) c.deref.ensures in
+          let number : c.helpers.result ≡ helpers_of lent.round = c.helpers.ensures ∙ ap (λ (l : Lent). helpers_of l.round) c.deref.ensures in
           let wide = c.from-room.ensures in let exact = c.in_ok-crew.ensures.exact in let more = c.push.ensures.capacity in
           omega (arith, number, wide, exact, more);
       served = λ done. served_one p h c.place-from.result c.push.new.self.items alone (subst (λ (n : ℕ). HasServed p n h) (sym at) (served_last p c.self.inside.from front all h is (i.served done)));

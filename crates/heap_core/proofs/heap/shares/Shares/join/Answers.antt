@@ -3,7 +3,7 @@ use Rattle.std.proofs.lemmas.List.{length-append}
 use Rattle.final_pause.specs.declared.round.Round.{Round}
 use Rattle.std.proofs.lemmas.Bool.{false≢true}
 use Rattle.final_pause.specs.Pauses.{PauseView}
-use Rattle.final_pause.specs.Rounds.{AreServing, AreServed}
+use Rattle.final_pause.specs.Rounds.{helpers_of, AreServing, AreServed}
 use Rattle.heap_core.specs.CoreContents.{CoreContents}
 use Rattle.heap_core.specs.Sharing.{Sharing, core_view}
 use Rattle.heap_core.proofs.Sharing.{serving_append, served_append}
@@ -27,7 +27,7 @@ invariant_of-self-2 c =
       round = i.round;
       serving = serving_append p mine.from other.from mine.crew.items other.crew.items c.append.new.self.items next is i.serving serving;
       inside =
-          let theirs : other.from + length other.crew.items ≤ lent.round.helpers = subst (λ (r : Round). other.from + length other.crew.items ≤ r.helpers) round o.inside in
+          let theirs : other.from + length other.crew.items ≤ helpers_of lent.round = subst (λ (r : Round). other.from + length other.crew.items ≤ helpers_of r) round o.inside in
           let size : length c.append.new.self.items ≡ length mine.crew.items + length other.crew.items = ap length is ∙ length-append mine.crew.items other.crew.items in
           omega (arith, theirs, next, size);
       room = let more = c.append.ensures.capacity in let least = i.room in omega (arith, more, least);

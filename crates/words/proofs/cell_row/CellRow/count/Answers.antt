@@ -1,5 +1,0 @@
-use Rattle.words.proofs.Counts.{row_counted}
-use Rattle.words.proofs.cell_row.CellRow.count.Goals as goal
-
-pub returns : goal.returns
-returns c = rw (← c.self.view_is) (row_counted _ _ _ c.ones_of.ensures)
