@@ -119,7 +119,7 @@ open_cases mpheap
 good_scripts
 bad_lines
 workloads
-run_cases 316
+run_cases 366
 open_cases replay
 written_runs
 run_texts

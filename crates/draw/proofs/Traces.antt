@@ -76,7 +76,7 @@ pub told_next : (text rest line behind : List ℕ) (n : ℕ) → IsPast text res
 told_next text rest line behind n past e =
     ap told_lines (next_of (lines_of text) n line (lines_of behind) (sym past.behind ∙ e)).front ∙ told_more (take n (lines_of text)) line
 
-empty_of : (xs : List ℕ) → length xs ≡ 0 → xs ≡ []
+pub empty_of : (xs : List ℕ) → length xs ≡ 0 → xs ≡ []
 empty_of [] e = refl
 empty_of (x ∷ xs) e = absurd (omega (arith, e))
 
@@ -144,7 +144,7 @@ line_at lines behind n line e =
     ap (λ ls. slice_get ls n) whole ∙ at
 
 -- the first line of a trace, and records behind it
-head_and : (head : List ℕ) (records : List (List ℕ)) (u v w : Option (List ℕ)) → Appends u v (text_of (head ∷ [])) → Appends v w (text_of records) → Appends u w (text_of (head ∷ records))
+pub head_and : (head : List ℕ) (records : List (List ℕ)) (u v w : Option (List ℕ)) → Appends u v (text_of (head ∷ [])) → Appends v w (text_of records) → Appends u w (text_of (head ∷ records))
 head_and head records u v w one two = subst (λ text. Appends u w text) (sym (flat_map-append (λ line. line ++ newline ∷ []) (head ∷ []) records)) (Appends-more u v w _ _ one two)
 
 -- the first line and all records are written

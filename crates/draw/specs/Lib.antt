@@ -1,3 +1,4 @@
 pub mod Drawn
 pub mod RunDrawn
 pub mod RunTrace
+pub mod ScriptTrace

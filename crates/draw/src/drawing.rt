@@ -1,6 +1,7 @@
 //! A run that is drawn: what is written of each line of its script.
-ghost use Rattle.std.specs.Prelude.{◌≡◌, IfOk, string_bytes};
-ghost use Rattle.draw.specs.Drawn.{IsDrawn};
+ghost use Rattle.std.specs.Prelude.{◌≡◌, ◌⊎◌, IfErr, IfOk, string_bytes};
+ghost use Rattle.draw.specs.Drawn.{IsDrawn, NamesBadLine};
+ghost use Rattle.programs.specs.Faults.{IsRefusal};
 
 use crate::reply::shown_reply;
 use programs::Fault;
@@ -27,6 +28,7 @@ pub(crate) fn written(
     line: &str,
 ) -> Result<String, Fault>
     ensures drawn { IfOk result (λ text. IsDrawn run.old.pages run.old.recorder run.old.tracer line.now run.new.recorder run.new.tracer (string_bytes text)) }
+    ensures fault { IfErr result (λ fault. NamesBadLine number line.now fault ⊎ IsRefusal fault) }
     ensures pages { run.new.pages ≡ run.old.pages }
 {
     if line.len() > LINE_BYTES {

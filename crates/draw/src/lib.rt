@@ -33,9 +33,10 @@ pub fn answer(rt: &HostRuntime, words: &[String]) -> Result<u8, Fault> {
         Ok(text) => text,
         Err(error) => return Err(Fault::of_read(&error)),
     };
+    let mut out = Std::new(rt.stdout());
     if asked.is_run {
-        return draw_run(rt, &mut Std::new(rt.stdout()), asked.pages, text.as_str());
+        return draw_run(rt, &mut out, asked.pages, text.as_str());
     }
-    draw_script(rt, asked.pages, text.as_str())?;
+    draw_script(&mut out, rt.alloc(), asked.pages, text.as_str())?;
     Ok(0)
 }

@@ -24,3 +24,17 @@ pub(crate) fn told_among(text: &str, most: u64) -> u64
     }
     told
 }
+
+/// How many lines a text has.
+pub(crate) fn line_count(text: &str) -> u64
+    ensures { result ≡ length (lines_of text.now) }
+{
+    let mut rest = text;
+    let mut count = 0u64;
+    while !rest.is_empty() {
+        let (_, behind) = first_line(rest);
+        count += 1;
+        rest = behind;
+    }
+    count
+}

@@ -9,8 +9,8 @@ ghost use Rattle.draw.specs.RunTrace.{DrawsRun, PutsBrokenTrace, PutsCutTrace, P
 
 use crate::run_drawing::{refusal_written, sentences};
 use crate::run_lines::told_among;
-use crate::run_records::{put_line, put_records};
-use programs::Fault;
+use crate::run_records::put_records;
+use programs::{Fault, put_line};
 use scripts::Sink;
 use std::alloc::Global;
 use trace_lines::head_line;

@@ -1,5 +1,5 @@
 //! Records of a run that was written down, one after another.
-ghost use Rattle.std.specs.Prelude.{◌≡◌, ◌∷◌, [], IfOk, OnOk, drop, take, string_bytes};
+ghost use Rattle.std.specs.Prelude.{◌≡◌, ◌∷◌, [], IfOk, OnOk, drop, take};
 ghost use Rattle.std.specs.Io.KnownBytes.{Appends};
 ghost use Rattle.scripts.specs.Lines.{lines_of};
 ghost use Rattle.scripts.specs.Turns.{text_of};
@@ -7,25 +7,11 @@ ghost use Rattle.written_runs.specs.Told.{told_lines};
 ghost use Rattle.draw.specs.RunTrace.{PutsRecords};
 
 use crate::run_drawing::run_written;
-use programs::Fault;
-use scripts::{Sink, write_all};
+use programs::{Fault, put_line};
+use scripts::Sink;
 use std::alloc::Global;
 use tracing::Tracer;
 use written_runs::{first_line, is_comment};
-
-/// Writes a line, and a newline behind it.
-pub(crate) fn put_line<W: Sink>(out: &mut W, line: String) -> Result<(), Fault>
-    ensures { OnOk result (Appends (W.written out.old) (W.written out.new) (text_of (string_bytes line ∷ []))) }
-{
-    let mut line = line;
-    let Ok(()) = line.push_str("\n") else {
-        return Err(Fault::Memory);
-    };
-    match write_all(out, line.as_str().as_bytes()) {
-        Ok(()) => Ok(()),
-        Err(_) => Err(Fault::Write),
-    }
-}
 
 // Writes the record of a line, if it is told, which has this number.
 fn put_record<W: Sink>(

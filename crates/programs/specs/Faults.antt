@@ -50,3 +50,7 @@ pub record EndsBy (fault : Fault) (status : ℕ) (old new : Option (List ℕ)) (
 abbrev pub Ends : Result ⊤ Fault → ℕ → Option (List ℕ) → Option (List ℕ) → ℕ → ℕ → Type 0
 Ends (Ok done) status old new faults faults' = (status ≡ 0) × (new ≡ old) × (faults' ≡ faults)
 Ends (Err fault) status old new faults faults' = EndsBy fault status old new faults faults'
+
+-- memory was refused, or a write was
+abbrev pub IsRefusal : Fault → Type 0
+IsRefusal fault = (fault ≡ Memory) ⊎ (fault ≡ Write)

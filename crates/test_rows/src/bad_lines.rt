@@ -276,6 +276,106 @@ const LINES: &[BadLine<'static>] = &[
         name: "gput_of_one",
         line: "0 gput 1",
     },
+    BadLine {
+        name: "link_alone",
+        line: "0 link",
+    },
+    BadLine {
+        name: "link_without_an_offset",
+        line: "0 link 1 2",
+    },
+    BadLine {
+        name: "link_and_more",
+        line: "0 link 1 0 2 3",
+    },
+    BadLine {
+        name: "link_in_no_register",
+        line: "0 link 16 0 2",
+    },
+    BadLine {
+        name: "link_to_no_register",
+        line: "0 link 1 0 16",
+    },
+    BadLine {
+        name: "link_of_a_word",
+        line: "0 link 1 0 268435456",
+    },
+    BadLine {
+        name: "link_past_u64",
+        line: "0 link 1 18446744073709551616 2",
+    },
+    BadLine {
+        name: "link_of_no_slot",
+        line: "link 1 0 2",
+    },
+    BadLine {
+        name: "link_of_a_slot_past_15",
+        line: "16 link 1 0 2",
+    },
+    BadLine {
+        name: "link_of_the_collector",
+        line: "gc link 1 0 2",
+    },
+    BadLine {
+        name: "unlink_alone",
+        line: "0 unlink",
+    },
+    BadLine {
+        name: "unlink_without_an_offset",
+        line: "0 unlink 1",
+    },
+    BadLine {
+        name: "unlink_and_more",
+        line: "0 unlink 1 0 2",
+    },
+    BadLine {
+        name: "unlink_in_no_register",
+        line: "0 unlink 16 0",
+    },
+    BadLine {
+        name: "unlink_past_u64",
+        line: "0 unlink 1 18446744073709551616",
+    },
+    BadLine {
+        name: "unlink_with_leading_zero",
+        line: "0 unlink 1 00",
+    },
+    BadLine {
+        name: "unlink_of_no_slot",
+        line: "unlink 1 0",
+    },
+    BadLine {
+        name: "unlink_of_the_collector",
+        line: "gc unlink 1 0",
+    },
+    BadLine {
+        name: "gc_partial_and_more",
+        line: "gc partial 1",
+    },
+    BadLine {
+        name: "gc_partial_of_a_slot",
+        line: "0 gc partial",
+    },
+    BadLine {
+        name: "partial_of_a_slot",
+        line: "0 partial",
+    },
+    BadLine {
+        name: "partial_alone",
+        line: "partial",
+    },
+    BadLine {
+        name: "capital_partial",
+        line: "gc Partial",
+    },
+    BadLine {
+        name: "front_of_partial",
+        line: "gc part",
+    },
+    BadLine {
+        name: "gc_begin_partial",
+        line: "gc begin partial",
+    },
 ];
 
 #[test]

@@ -11,4 +11,4 @@ returns-then-is_comment g c =
 pub returns : goal.returns
 returns g c =
     let told : is_comment c.args.line.now ≡ false = sym c.is_comment.ensures ∙ c.if-is_comment.false in
-    rw told (puts_one c.put_line.result _ _ _ _ _ _ c.in_ok-record.ensures c.put_line.ensures)
+    rw told (puts_one c.put_line.result _ _ _ _ _ _ c.in_ok-record.ensures c.put_line.ensures.ok)
