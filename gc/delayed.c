@@ -18,9 +18,9 @@ static void read_status(uint32_t number, char *text, size_t bytes)
 {
     char path[64];
     (void)snprintf(path, sizeof path, "/proc/self/task/%u/status", number);
-    long file = syscall(SYS_openat, AT_FDCWD, path, O_RDONLY | O_CLOEXEC), length = 0, read;
-    while (file >= 0 && (read = syscall(SYS_read, file, text + length, bytes - 1 - (size_t)length)) > 0) length += read;
-    if (file >= 0) syscall(SYS_close, file);
+    long file = mpgc_call_kernel(SYS_openat, AT_FDCWD, path, O_RDONLY | O_CLOEXEC), length = 0, read;
+    while (file >= 0 && (read = mpgc_call_kernel(SYS_read, file, text + length, bytes - 1 - (size_t)length)) > 0) length += read;
+    if (file >= 0) mpgc_call_kernel(SYS_close, file);
     text[length] = 0;
 }
 

@@ -50,6 +50,9 @@ HIDDEN uintptr_t mpgc_linked(const char *name);
 HIDDEN void mpgc_collect(void);
 HIDDEN void mpgc_step(uint64_t words);
 
+// The handler of the barrier's faults stands from now on, and not only from where pages are closed: a child by vfork has those of its beginning.
+HIDDEN void mpgc_will_close(void);
+
 // Pages that are still closed are opened: some, if no cycle marks, which answers whether there were; or all, and told if one does; or all, and none is
 // closed any more.
 HIDDEN bool mpgc_open_some(void);
@@ -58,6 +61,15 @@ HIDDEN void mpgc_close_no_more(void);
 
 // More pages are counted as the heap's, if there are: nothing is known of a page, and nothing owed for it, before an object lies there.
 HIDDEN bool mpgc_grow(size_t pages);
+
+// direct.c. A call of the kernel, with up to six words or addresses; those that aren't given are 0.
+HIDDEN long mpgc_call_with(long number, long first, long second, long third, long fourth, long fifth, long sixth);
+#define WITH_WORDS(number, first, second, third, fourth, fifth, sixth, ...) \
+    mpgc_call_with(number, (long)(first), (long)(second), (long)(third), (long)(fourth), (long)(fifth), (long)(sixth))
+#define mpgc_call_kernel(...) WITH_WORDS(__VA_ARGS__, 0, 0, 0, 0, 0, 0, 0)
+
+// world.c. The signal by which threads are stopped: SIGPWR, or that which the program names first.
+HIDDEN extern int mpgc_stopper;
 
 // Pages are swept, if there are so many that are to be: answers whether there were. And what is free of these is given back to the system.
 HIDDEN bool mpgc_sweep_some(size_t pages);
@@ -128,6 +140,9 @@ HIDDEN void *mpgc_this_thread(void);
 HIDDEN bool mpgc_may_be_stopped(void);
 HIDDEN char *mpgc_stack_bottom(void);
 HIDDEN void mpgc_find_stack(const char **low, const char **bottom);
+
+// threads.c. A thread is made, which is known; the program has told of it, or hasn't.
+HIDDEN int mpgc_create(pthread_t *thread, const pthread_attr_t *attributes, void *(*start)(void *), void *data, bool is_told);
 
 // lock.c. A program may take the lock, and give it back.
 #undef GC_alloc_lock

@@ -1,13 +1,14 @@
 // What the audited files of libmpgc know of each other. x86-64, Linux, the GNU C library. Trusted, and not proved.
 //
 // Below them stands the proved heap of mpheap_c, above them a C program that knows bdwgc's gc.h, and may do what it likes. The proofs hold
-// for the program as far as these files keep what mpheap.h asks of a caller. They alone could lose an object or break memory: 3,536 lines
+// for the program as far as these files keep what mpheap.h asks of a caller. They alone could lose an object or break memory: 3,588 lines
 // of code in this folder, without blank ones and comments. Why names/ and kernel/ can't is said in front.h. This is all that they owe, in
 // the order in which they are best read, and the head of each says by which lines it pays:
 //
 //   start.c                "`heap` points to an mpheap that was opened and has not been closed since", and is opened once
 //   lock.c world.c         "Calls on one heap are made by one thread at a time", and what another thread writes falls into none that
 //   behind.c delayed.c     reads the program's words
+//   direct.c
 //   signals.c              ".. and never from a signal handler that interrupted one of them", with CALL and GRANTED below, in which every
 //                          call stands; and a write to a closed page reaches the barrier
 //   protection.c pages.c   the barrier, which is the heart of the layer: "the address was told by mpheap_written first", while a cycle
@@ -65,6 +66,7 @@ struct thread {
     volatile bool is_suspended;            // by the program
     volatile sig_atomic_t takes_back;      // what it frees (reuse.c), or its runs change
     uint64_t taken_back;                   // so many words since the last collection: a figure alone
+    bool is_told;                          // the program has told of it, by a name of bdwgc's
     bool is_detached;                      // nobody will ask what it answers
     bool is_late;                          // it has said goodbye before, and won't again
     unsigned holders;                      // so many are asking for it

@@ -87,7 +87,7 @@ static int set_link(void **word, const void *object, bool is_long)
 static int remove_link(void **word, bool is_long)
 {
     struct entry **at = place_of(word, is_long);
-    if (!*at) return 0;
+    if (!*at || (uintptr_t)word % WORD != 0) return 0;
     free(mpgc_take(&links, at));
     return 1;
 }
@@ -95,7 +95,7 @@ static int remove_link(void **word, bool is_long)
 static int move_link(void **word, void **into, bool is_long)
 {
     struct entry **at = place_of(word, is_long);
-    if (!*at) return GC_NOT_FOUND;
+    if (!*at || (uintptr_t)word % WORD != 0) return GC_NOT_FOUND;
     if (word == into) return GC_SUCCESS;
     if (*place_of(into, is_long)) return GC_DUPLICATE;
     if (!into || (uintptr_t)into % WORD != 0) mpgc_stop("a disappearing link is moved to what isn't the address of a word");

@@ -27,7 +27,7 @@ static _Thread_local void **keys __attribute__((tls_model("initial-exec")));
 bool mpgc_can_be_read(const char *at)
 {
     enum { NO_WAY = -1, BYTES = 8 };
-    return syscall(SYS_rt_sigprocmask, NO_WAY, at, NULL, BYTES) == 0 || errno != EFAULT;
+    return mpgc_call_kernel(SYS_rt_sigprocmask, NO_WAY, at, NULL, BYTES) == 0 || errno != EFAULT;
 }
 
 // What is there may be of an object that was unloaded, and shorter, since the thread hasn't looked again; and of this thread too, while
@@ -81,16 +81,20 @@ static size_t bytes_of_room(void)
 // Another thread's lies at the end of its stack.
 __attribute__((constructor)) static void find_room(void)
 {
-    if (syscall(SYS_gettid) != getpid()) return;
+    if (mpgc_call_kernel(SYS_gettid) != getpid()) return;
     room.pointer = room.to = __builtin_thread_pointer();
     room.from = room.to - bytes_of_room();
     dl_iterate_phdr(ends_below, NULL);
-    while (room.from < room.to && !mpgc_can_be_read(room.from)) room.from = (const char *)(((uintptr_t)room.from & ~(PAGE - 1)) + PAGE);
 }
 
+// What lies lowest there may be another's, and come and go.
 void mpgc_scan_room_of_locals(const struct thread *thread, void (*scan)(const char *from, const char *to))
 {
-    if (thread->pointer == room.pointer && room.from < room.to) scan(room.from, room.to);
+    const char *from = thread->pointer == room.pointer ? room.from : room.to;
+    int kept = errno;
+    while (from < room.to && !mpgc_can_be_read(from)) from = (const char *)(((uintptr_t)from & ~(PAGE - 1)) + PAGE);
+    errno = kept;
+    if (from < room.to) scan(from, room.to);
 }
 
 void mpgc_scan_keys(const struct thread *thread, void (*scan)(const char *from, const char *to))
@@ -110,7 +114,7 @@ void mpgc_set_keys(struct thread *thread)
 // Not by malloc, which may itself set a key.
 UNSEEN static void **made(void)
 {
-    void *at = (void *)syscall(SYS_mmap, NULL, KEYS * sizeof *keys, PROT_READ | PROT_WRITE, MAP_PRIVATE | MAP_ANONYMOUS, -1, 0L);
+    void *at = (void *)mpgc_call_kernel(SYS_mmap, NULL, KEYS * sizeof *keys, PROT_READ | PROT_WRITE, MAP_PRIVATE | MAP_ANONYMOUS, -1, 0L);
     return at == MAP_FAILED ? NULL : at;
 }
 

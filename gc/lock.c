@@ -13,13 +13,14 @@
 //
 // It is lent, while who has it waits to stop the world (world.c), to those that wait for it to write to a closed page, one at a
 // time. For the one that holds up the stop may be among them: he walks over the loaded objects, has their lock, and writes into the
-// heap there.
+// heap there; or he is a thread's child by vfork, with its number, and the thread answers when he has gone.
 //
 //   - Nothing is lost: it is lent between two pieces of a collection, under no call of the core, and nobody but who borrowed it
 //     touches what it guards until it is back. So the page is told and opened as before the piece, by one who had the lock then.
 //   - No order of locks makes a ring: who has borrowed it waits for nobody (the core and the kernel tell and open the page), with
-//     signals blocked, so that no handler of the program waits in his place. Who lends it waits for the lock of the loaded objects,
-//     and behind that for whoever has borrowed it. (A walk whose function makes a request still waits for the lock in earnest.)
+//     signals blocked, so that no handler of the program waits in his place. Who lends it waits for the lock of the loaded objects, or
+//     for threads to answer, and behind that for whoever has borrowed it. (A walk whose function makes a request still waits for the lock
+//     in earnest.)
 //   - Nobody sleeps through it: that it is lent, and borrowed, stands in the word. So each change keeps awake who is about to sleep,
 //     and it wakes those that do.
 //
@@ -51,7 +52,7 @@ static atomic_bool starves;       // one was woken in vain, and nobody has given
 
 uint32_t mpgc_my_number(void)
 {
-    if (me == 0) me = (uint32_t)syscall(SYS_gettid);
+    if (me == 0) me = (uint32_t)mpgc_call_kernel(SYS_gettid);
     return me;
 }
 
@@ -73,11 +74,11 @@ static void sleep_on(uint32_t seen)
 {
     sleeping++;
     if ((seen & WAITED_FOR) || change(seen, seen | WAITED_FOR))
-        syscall(SYS_futex, &word, FUTEX_WAIT_PRIVATE, seen | WAITED_FOR, LONGEST_WAIT, NULL, 0);
+        mpgc_call_kernel(SYS_futex, &word, FUTEX_WAIT_PRIVATE, seen | WAITED_FOR, LONGEST_WAIT, NULL, 0);
     sleeping--;
 }
 
-static void wake_all(void) { syscall(SYS_futex, &word, FUTEX_WAKE_PRIVATE, INT32_MAX, NULL, NULL, 0); }
+static void wake_all(void) { mpgc_call_kernel(SYS_futex, &word, FUTEX_WAKE_PRIVATE, INT32_MAX, NULL, NULL, 0); }
 
 static bool is_offered(const struct loan *loan, uint32_t seen) { return loan && (seen & LENT) && !(seen & BORROWED); }
 
@@ -123,7 +124,7 @@ static void wait_for_it(struct loan *loan)
     waiting--;
     if (loan && loan->is_one) return;
     handed++;
-    if (giving > 0) syscall(SYS_futex, &handed, FUTEX_WAKE_PRIVATE, INT32_MAX, NULL, NULL, 0);
+    if (giving > 0) mpgc_call_kernel(SYS_futex, &handed, FUTEX_WAKE_PRIVATE, INT32_MAX, NULL, NULL, 0);
 }
 
 // One of those that wait has got it, unless a moment has passed: he may have been told to wait himself (world.c).
@@ -133,7 +134,7 @@ static bool let_one_have_it(void)
     int kept = errno;
     uint32_t seen = handed;
     giving++;
-    bool is_late = waiting > 0 && syscall(SYS_futex, &handed, FUTEX_WAIT_PRIVATE, seen, &moment, NULL, 0) != 0 && errno == ETIMEDOUT;
+    bool is_late = waiting > 0 && mpgc_call_kernel(SYS_futex, &handed, FUTEX_WAIT_PRIVATE, seen, &moment, NULL, 0) != 0 && errno == ETIMEDOUT;
     giving--;
     errno = kept;
     return !is_late;
@@ -165,7 +166,7 @@ void mpgc_unlock_slowly(void)
     if (--mpgc_lock_depth > 0) return;
     for (uint32_t seen = word; (seen & NUMBER) == me; seen = word) {
         if (!change(seen, 0)) continue;
-        if (seen & WAITED_FOR) syscall(SYS_futex, &word, FUTEX_WAKE_PRIVATE, 1, NULL, NULL, 0);
+        if (seen & WAITED_FOR) mpgc_call_kernel(SYS_futex, &word, FUTEX_WAKE_PRIVATE, 1, NULL, NULL, 0);
         if (starves && atomic_exchange(&starves, false)) (void)let_one_have_it();
         return;
     }

@@ -49,13 +49,13 @@ static unsigned number_of(unsigned marker) { return marker < COLLECTING ? marker
 // By the kernel's own call: waiting by the C library's a thread may be cancelled.
 static long wait_while(_Atomic uint32_t *word, uint32_t value, const struct timespec *most)
 {
-    return syscall(SYS_futex, word, FUTEX_WAIT_PRIVATE, value, most, NULL, 0);
+    return mpgc_call_kernel(SYS_futex, word, FUTEX_WAIT_PRIVATE, value, most, NULL, 0);
 }
 
 static void change(_Atomic uint32_t *word, uint32_t value)
 {
     *word = value;
-    syscall(SYS_futex, word, FUTEX_WAKE_PRIVATE, INT32_MAX, NULL, NULL, 0);
+    mpgc_call_kernel(SYS_futex, word, FUTEX_WAKE_PRIVATE, INT32_MAX, NULL, NULL, 0);
 }
 
 // The word becomes another one: for a while it is looked at, since a turn is short.
@@ -93,7 +93,7 @@ static void *serve(void *number)
     mpheap_use_memory(NULL);  // the loader has made what the thread needs for it
     if (which == FIRST_MARKER) use_lent();
     here++;
-    syscall(SYS_futex, &here, FUTEX_WAKE_PRIVATE, INT32_MAX, NULL, NULL, 0);
+    mpgc_call_kernel(SYS_futex, &here, FUTEX_WAKE_PRIVATE, INT32_MAX, NULL, NULL, 0);
     for (;;) {
         mpgc_await_telling(which);
         if (go) break;

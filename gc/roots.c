@@ -150,7 +150,7 @@ static int scan_object(struct dl_phdr_info *object, size_t size, void *count)
 static const char *end_of_signals_stack(void)
 {
     stack_t alt;
-    bool is_there = syscall(SYS_sigaltstack, NULL, &alt) == 0 && (alt.ss_flags & SS_ONSTACK);
+    bool is_there = mpgc_call_kernel(SYS_sigaltstack, NULL, &alt) == 0 && (alt.ss_flags & SS_ONSTACK);
     return is_there ? (const char *)alt.ss_sp + alt.ss_size : NULL;
 }
 
@@ -288,14 +288,16 @@ void mpgc_read_roots(void)
 // Where the main thread's stack began.
 extern void *__libc_stack_end;
 
-// This thread's stack. Without /proc, as in a closed room, the C library doesn't tell where the first one's may end.
+// This thread's stack. Without /proc, as in a closed room, the C library doesn't tell where the first one's may end; and without memory it tells
+// nothing of any. But what it keeps of a thread lies at the end of that one's stack, and of the first one below that.
 void mpgc_find_stack(const char **low, const char **bottom)
 {
     pthread_attr_t attributes;
     void *from;
     size_t size;
+    const char *own = __builtin_thread_pointer();
     *low = NULL;
-    *bottom = __libc_stack_end;
+    *bottom = own > (const char *)__builtin_frame_address(0) ? own : __libc_stack_end;
     if (pthread_getattr_np(pthread_self(), &attributes) != 0) return;
     pthread_attr_getstack(&attributes, &from, &size);
     pthread_attr_destroy(&attributes);

@@ -30,7 +30,7 @@ static sigset_t every_signal(void)
 static void set_signals(const sigset_t *blocked, sigset_t *old)
 {
     enum { BYTES = 8 };  // of a set, to the kernel
-    if (syscall(SYS_rt_sigprocmask, SIG_SETMASK, blocked, old, BYTES) != 0) mpgc_stop("the kernel refused to block signals");
+    if (mpgc_call_kernel(SYS_rt_sigprocmask, SIG_SETMASK, blocked, old, BYTES) != 0) mpgc_stop("the kernel refused to block signals");
 }
 
 void mpgc_block_signals(sigset_t *old)
@@ -40,7 +40,7 @@ void mpgc_block_signals(sigset_t *old)
     for (size_t k = 0; k < sizeof of_faults / sizeof *of_faults; k++) sigdelset(&all, of_faults[k]);
     set_signals(&all, old);
     sigdelset(old, SIGSEGV);
-    if (mpgc.is_threaded) sigdelset(old, SIGPWR);  // the program may have been started with it blocked
+    if (mpgc.is_threaded) sigdelset(old, mpgc_stopper);  // the program may have been started with it blocked
 }
 
 void mpgc_restore_signals(const sigset_t *old) { set_signals(old, NULL); }
@@ -68,7 +68,7 @@ static bool can_be_written(size_t page)
 {
     uint32_t nobody = 0;
     const int changes_nothing = FUTEX_OP(FUTEX_OP_OR, 0, FUTEX_OP_CMP_EQ, 0);
-    return syscall(SYS_futex, &nobody, FUTEX_WAKE_OP_PRIVATE, 0, NULL, FIRST + page * PAGE, changes_nothing) >= 0;
+    return mpgc_call_kernel(SYS_futex, &nobody, FUTEX_WAKE_OP_PRIVATE, 0, NULL, FIRST + page * PAGE, changes_nothing) >= 0;
 }
 
 // A write to a page of the heap: mostly nothing but the barrier makes it fault. The lock may be another's for as long as a step of a
@@ -103,8 +103,16 @@ static void on_fault(int number, siginfo_t *info, void *context)
 void mpgc_take_faults(void)
 {
     struct sigaction ours = { .sa_sigaction = on_fault, .sa_flags = SA_SIGINFO | SA_ONSTACK | SA_RESTART, .sa_mask = every_signal() }, old;
-    sigdelset(&ours.sa_mask, SIGPWR);
+    sigdelset(&ours.sa_mask, mpgc_stopper);
     if (__sigaction(SIGSEGV, &ours, &old) != 0) mpgc_stop("the kernel refused a handler of faults");
     bool is_ours = (old.sa_flags & SA_SIGINFO) && old.sa_sigaction == on_fault;
     mpgc_barrier_stands(is_ours ? NULL : &old);
+}
+
+void mpgc_will_close(void)
+{
+    sigset_t old;
+    mpgc_block_signals(&old);
+    mpgc_take_faults();
+    mpgc_restore_signals(&old);
 }

@@ -14,7 +14,7 @@
 #include "kernel/next.h"
 #include <errno.h>
 #include <stdlib.h>
-#include <sys/mman.h>
+#include <sys/syscall.h>
 #include <unistd.h>
 
 SHOWN int GC_pthread_create(pthread_t *thread, const pthread_attr_t *attributes, void *(*start)(void *), void *data);
@@ -81,6 +81,7 @@ void mpgc_know_first(void)
     mpgc.first.id = pthread_self();
     if (!GC_stackbottom) GC_stackbottom = (char *)(uintptr_t)mpgc.first.bottom;
     mpgc.first.state = RUNNING;
+    mpgc.first.is_told = true;
     link_record(&mpgc.first);
     mpgc_self = &mpgc.first;
     if (pthread_key_create(&key, on_goodbye) != 0) mpgc_stop("the C library has no key left");
@@ -177,7 +178,7 @@ static int create(struct thread *record, pthread_t *thread, const pthread_attr_t
     if (has_own) say_signals(attributes, &all);
     record->signals = has_own ? own : old;
     sigdelset(&record->signals, SIGSEGV);
-    sigdelset(&record->signals, SIGPWR);
+    sigdelset(&record->signals, mpgc_stopper);
     link_record(record);
     record->data = data;  // not before, when the record is no root and this thread may be stopped
     int answer = mpgc_next_creator()(&record->id, attributes, begin, record);
@@ -189,7 +190,7 @@ static int create(struct thread *record, pthread_t *thread, const pthread_attr_t
     return answer;
 }
 
-int GC_pthread_create(pthread_t *thread, const pthread_attr_t *attributes, void *(*start)(void *), void *data)
+int mpgc_create(pthread_t *thread, const pthread_attr_t *attributes, void *(*start)(void *), void *data, bool is_told)
 {
     int is_detached = PTHREAD_CREATE_JOINABLE;
     mpgc_enter();
@@ -197,9 +198,15 @@ int GC_pthread_create(pthread_t *thread, const pthread_attr_t *attributes, void 
     struct thread *record = calloc(1, sizeof *record);
     if (!record) return EAGAIN;
     record->start = start;
+    record->is_told = is_told;
     if (attributes) pthread_attr_getdetachstate(attributes, &is_detached);
     record->is_detached = is_detached == PTHREAD_CREATE_DETACHED;
     return create(record, thread, attributes, data);
+}
+
+int GC_pthread_create(pthread_t *thread, const pthread_attr_t *attributes, void *(*start)(void *), void *data)
+{
+    return mpgc_create(thread, attributes, start, data, true);
 }
 
 // ---- Going ----
@@ -318,13 +325,17 @@ void GC_allow_register_threads(void)
     be_threaded();
 }
 
+// It may be known without: then all that is new is that the program has said so.
 int GC_register_my_thread(const struct GC_stack_base *base)
 {
-    if (mpgc_self) return GC_DUPLICATE;
+    if (GC_thread_is_registered()) return GC_DUPLICATE;
     if (!GC_is_init_called()) mpgc_stop("GC_register_my_thread before GC_init");
-    mpgc_know_this(base);
+    if (!mpgc_self) mpgc_know_this(base);
+    mpgc_self->is_told = true;
     return GC_SUCCESS;
 }
+
+int GC_thread_is_registered(void) { return mpgc_self && mpgc_self->is_told; }
 
 int GC_unregister_my_thread(void)
 {
@@ -351,7 +362,7 @@ static const char *lowest(const char *low, const char *bottom)
     char *at = (char *)((uintptr_t)bottom & ~(PAGE - 1));
     unsigned char answer;
     int kept = errno;
-    while (at > low && mincore(at - PAGE, PAGE, &answer) == 0 && mpgc_can_be_read(at - WORD)) at -= PAGE;
+    while (at > low && mpgc_call_kernel(SYS_mincore, at - PAGE, PAGE, &answer) == 0 && mpgc_can_be_read(at - WORD)) at -= PAGE;
     errno = kept;
     return at > low ? at : low;  // a stack that the program gave may begin in the middle of a page
 }
@@ -365,12 +376,16 @@ static bool is_on_own_stack(struct thread *one, const char *top)
     return top >= one->low && top < one->bottom;
 }
 
-// A program of one thread that moves between stacks says so by that variable alone, a moment before it moves or behind it: so where the first
-// thread was stopped it is certain only on the stack that it began with.
+static bool has_own_stacks;
+bool mpgc_has_own_stacks(void) { return has_own_stacks; }
+
+// A program of one thread that moves between stacks says so by that variable alone, or by GC_set_stackbottom, a moment before it moves or
+// behind it: so where the first thread was stopped it is certain only on the stack that it began with.
 bool mpgc_first_is_at_home(void)
 {
     struct thread *first = &mpgc.first;
     const char *top = first->alt_top ? first->under : first->top;
+    if (has_own_stacks) return false;
     if (first == mpgc_self || first->state == ENDED) return true;
     return GC_stackbottom == first->bottom && (!top || !first->low || is_on_own_stack(first, top));
 }
@@ -384,9 +399,6 @@ char *mpgc_stack_bottom(void)
     mpgc_enter();
     return bottom_of(mpgc_self);
 }
-
-static bool has_own_stacks;
-bool mpgc_has_own_stacks(void) { return has_own_stacks; }
 
 // The thread is this one, or one that is stopped.
 void GC_set_stackbottom(void *thread, const struct GC_stack_base *base)

@@ -26,7 +26,9 @@
 #include <ucontext.h>
 #include <unistd.h>
 
-enum { SUSPEND = SIGPWR, PATIENCE = 4000 };  // short waits, 20 seconds
+enum { PATIENCE = 4000 };  // short waits, 20 seconds
+
+int mpgc_stopper = SIGPWR;
 
 static _Atomic uint32_t turn;     // odd while the world is stopped
 static _Atomic uint32_t answers;  // of threads that wait in this turn
@@ -39,10 +41,10 @@ bool mpgc_world_is_stopped(void) { return stops > 0; }
 // By the kernel's own call: waiting by the C library's a thread may be cancelled.
 static long wait_while(_Atomic uint32_t *word, uint32_t value, const struct timespec *most)
 {
-    return syscall(SYS_futex, word, FUTEX_WAIT_PRIVATE, value, most, NULL, 0);
+    return mpgc_call_kernel(SYS_futex, word, FUTEX_WAIT_PRIVATE, value, most, NULL, 0);
 }
 
-static void wake(_Atomic uint32_t *word) { syscall(SYS_futex, word, FUTEX_WAKE_PRIVATE, INT32_MAX, NULL, NULL, 0); }
+static void wake(_Atomic uint32_t *word) { mpgc_call_kernel(SYS_futex, word, FUTEX_WAKE_PRIVATE, INT32_MAX, NULL, NULL, 0); }
 
 // This thread, of which all registers lie above this frame, waits until the world goes on. Signals are blocked. Whether it is suspended is
 // asked in one turn, since it becomes so in a stop; and if it is resumed in another one it waits for that one's end.
@@ -103,7 +105,7 @@ static void install(void)
     if (is_installed) return;
     sigfillset(&ours.sa_mask);
     ours.sa_mask.__val[0] |= (uint64_t)1 << (CANCEL - 1);
-    if (SET_HANDLER(SUSPEND, &ours, NULL) != 0) mpgc_stop("the kernel refused what stops threads");
+    if (SET_HANDLER(mpgc_stopper, &ours, NULL) != 0) mpgc_stop("the kernel refused what stops threads");
     is_installed = true;
 }
 
@@ -112,11 +114,11 @@ static void install(void)
 void mpgc_make_stoppable(void)
 {
     enum { BYTES = 8 };  // of a set, to the kernel
-    uint64_t only = (uint64_t)1 << (SUSPEND - 1) | (uint64_t)1 << (SIGSEGV - 1);
+    uint64_t only = (uint64_t)1 << (mpgc_stopper - 1) | (uint64_t)1 << (SIGSEGV - 1);
     mpgc_lock();
     install();
     mpgc_unlock();
-    if (syscall(SYS_rt_sigprocmask, SIG_UNBLOCK, &only, NULL, BYTES) != 0) mpgc_stop("the kernel refused to unblock a signal");
+    if (mpgc_call_kernel(SYS_rt_sigprocmask, SIG_UNBLOCK, &only, NULL, BYTES) != 0) mpgc_stop("the kernel refused to unblock a signal");
 }
 
 // The process's first thread is there still for the kernel when it has ended, if others go on; but its list of locks that are held is gone.
@@ -124,13 +126,13 @@ static bool has_gone(const struct thread *one)
 {
     void *list = &list;
     size_t bytes;
-    return one->number == (uint32_t)getpid() && syscall(SYS_get_robust_list, one->number, &list, &bytes) == 0 && !list;
+    return one->number == (uint32_t)getpid() && mpgc_call_kernel(SYS_get_robust_list, one->number, &list, &bytes) == 0 && !list;
 }
 
 // Where it has ended without a word, the kernel knows it no more, and it has nothing.
 static bool is_told(struct thread *one, int signal)
 {
-    bool is_there = syscall(SYS_tgkill, getpid(), one->number, signal) == 0;
+    bool is_there = mpgc_call_kernel(SYS_tgkill, getpid(), one->number, signal) == 0;
     if (!is_there && errno != ESRCH) mpgc_stop("the kernel refused to signal a thread");
     if (is_there && !(signal == 0 && has_gone(one))) return true;
     one->state = ENDED;
@@ -162,22 +164,25 @@ static bool are_held_back(void)
     unsigned late = 0;
     for (const struct thread *one = mpgc.threads; one; one = one->next) {
         if (!is_awaited(one)) continue;
-        if (!mpgc_is_held_back(one, SUSPEND)) return false;
+        if (!mpgc_is_held_back(one, mpgc_stopper)) return false;
         late++;
     }
     return late > 0;
 }
 
 // By short waits: one that was about to end when it was told won't answer, and while the whole process is stopped, for however long, none can.
+// Nor can one whose child by vfork waits for the lock, to write into the heap: so behind the first of them it is lent.
 static void await(uint32_t sent)
 {
     static const struct timespec moment = { 0, 5000000 };
     unsigned late = 0;
     for (uint32_t seen = answers; seen < sent; seen = answers) {
         if (wait_while(&answers, seen, &moment) == 0 || errno != ETIMEDOUT) continue;
+        if (late == 0) mpgc_lend();
         sent = tell_others(0);
         if (++late % PATIENCE == 0 && !are_held_back()) mpgc_stop("a thread didn't stop: does it block SIGPWR?");
     }
+    if (late > 0) mpgc_end_loan();
 }
 
 static void stop_others(void)
@@ -186,7 +191,7 @@ static void stop_others(void)
     stopped_at = start;
     answers = 0;
     turn++;
-    await(tell_others(SUSPEND));
+    await(tell_others(mpgc_stopper));
     mpgc_count_stop(mpgc_now() - start);
 }
 
@@ -211,8 +216,8 @@ static struct thread *first_behind(void)
 static void let_run(const struct thread *one)
 {
     static const struct timespec moment = { 0, 20000 };
-    for (unsigned k = 0; k < PATIENCE && one->stands; k++) syscall(SYS_nanosleep, &moment, NULL);
-    syscall(SYS_nanosleep, &moment, NULL);
+    for (unsigned k = 0; k < PATIENCE && one->stands; k++) mpgc_call_kernel(SYS_nanosleep, &moment, NULL);
+    mpgc_call_kernel(SYS_nanosleep, &moment, NULL);
 }
 
 // All others, and none behind a call under the lock, but one that stays there.
@@ -267,6 +272,13 @@ void mpgc_start_after_collecting(void)
     mpgc_tell_event(GC_EVENT_PRE_START_WORLD);
     mpgc_start_world();
     mpgc_tell_event(GC_EVENT_POST_START_WORLD);
+}
+
+// As with bdwgc nothing is changed once the heap is there.
+SHOWN void GC_set_suspend_signal(int number);
+void GC_set_suspend_signal(int number)
+{
+    if (!GC_is_init_called()) mpgc_stopper = number;
 }
 
 SHOWN void GC_stop_world_external(void);

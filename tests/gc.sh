@@ -89,17 +89,22 @@ shadow() { run answers "$@"; }
 beside() {
     judges+=("$1")
     awaited+=("$2")
-    timeout -k 10 1500 "${@:3}" >"$room/said_by_${#running[@]}" 2>&1 &
+    local k=${#running[@]} status=0
+    {
+        timeout -k 10 1500 "${@:3}" || status=$?
+        echo "$status" >"$room/status_$k"
+    } >"$room/said_by_$k" 2>&1 &
     running+=($!)
 }
 
-# ended NUMBERS..: of programs that were begun so: they have ended, and their statuses are known.
+# ended NUMBERS..: of programs that were begun so: they have ended, and their statuses are known. The shell forgets one that has ended once its
+# number is another process's, so their statuses stand in files.
 ended() {
     local k
     for k in "$@"; do
         [ -z "${statuses[k]-}" ] || continue
-        wait "${running[k]}"
-        statuses[k]=$?
+        wait "${running[k]}" 2>"$room/said" || true
+        statuses[k]=$(cat "$room/status_$k")
     done
 }
 
@@ -139,8 +144,8 @@ if command -v clang >"$room/said"; then CC=clang build "$room/clang"; else skip 
 
 # Each function, each place of roots, and what stands round the barrier.
 tests=(functions settings macros inline limits links frees uncollectable pacing leaks unmapped finalizers typed kinds asking
-    without_memory roots barrier crowded mapped kernel copies sorting signals handlers moments process shadow threads world loading
-    registering stopping turns goodbyes suspending faulting waiting walking locks leaving joining behind together collector marking stacks)
+    without_memory roots neighbours barrier crowded mapped kernel copies direct aio notices within sorting signals handlers moments process shadow threads world loading
+    registering stopping turns goodbyes suspending faulting waiting walking starting locks leaving joining behind together collector marking stacks)
 build_test() { "${c[@]}" "$top/tests/gc/$1.c" "-L$room" -lmpgc "-Wl,-rpath,$room" -pthread -o "$room/$1"; }
 each "is built" build_test "${tests[@]}"
 
@@ -158,6 +163,7 @@ beside counts "stopping, over that core" env "LD_LIBRARY_PATH=$room/checking" "$
 for setting in FULL GC_ENABLE_INCREMENTAL GC_COLLECTOR_THREAD; do
     beside counts "locks, $setting" env $setting=1 "$room/locks"
 done
+beside counts starting "$room/starting"
 
 # What works on one thread, or on few: the longest first.
 for test in moments mapped; do queued counts "$test" "$room/$test"; done
@@ -170,7 +176,7 @@ for test in inline unmapped uncollectable finalizers typed kinds asking register
     queued counts "$test" "$room/$test"
     queued counts "$test, in small steps" env INCREMENTAL=1 "$room/$test"
 done
-for test in macros limits leaks barrier crowded without_memory kernel copies signals joining; do
+for test in macros limits leaks neighbours barrier crowded without_memory kernel copies direct aio notices within signals joining; do
     queued counts "$test" "$room/$test"
 done
 for setting in FULL GC_ENABLE_INCREMENTAL GC_COLLECTOR_THREAD; do
@@ -227,6 +233,7 @@ is "an object with thread-local data in the room for it is built" "" "$(cat "$ro
 for setting in FULL INCREMENTAL GC_COLLECTOR_THREAD; do
     counted "stacks, $setting" env $setting=1 "$room/stacks"
     counted "stacks of one thread, $setting" env $setting=1 ALONE=1 "$room/stacks"
+    counted "stacks of one thread that says so by a call, $setting" env $setting=1 TOLD=1 "$room/stacks"
 done
 locals=("$room/loaded_local.so" "$room/loaded_larger.so" "$room/loaded_initial.so")
 counted "world" "$room/world" "${locals[@]}"

@@ -33,7 +33,7 @@ SHOWN int sigaltstack(const stack_t *restrict next, stack_t *restrict old)
     stack_t was, instead, before = asked;
     bool moves = next && !(next->ss_flags & SS_DISABLE) && is_on_own_stack(next->ss_sp) && has_place(next->ss_size);
     if (moves) instead = (stack_t){ .ss_sp = place, .ss_flags = next->ss_flags, .ss_size = next->ss_size };
-    if (syscall(SYS_sigaltstack, moves ? &instead : next, &was) != 0) return -1;
+    if (mpgc_call_kernel(SYS_sigaltstack, moves ? &instead : next, &was) != 0) return -1;
     if (next) asked = *next;
     if (old) *old = was;
     if (old && place && was.ss_sp == place) old->ss_sp = before.ss_sp;
@@ -44,7 +44,7 @@ SHOWN int sigaltstack(const stack_t *restrict next, stack_t *restrict old)
 void mpgc_drop_signals_stack(void)
 {
     static const stack_t none = { .ss_flags = SS_DISABLE };
-    if (!place || syscall(SYS_sigaltstack, &none, NULL) != 0) return;
+    if (!place || mpgc_call_kernel(SYS_sigaltstack, &none, NULL) != 0) return;
     munmap(place, bytes);
     place = NULL;
     bytes = 0;

@@ -67,7 +67,7 @@ static bool swap_stopper(const struct sigaction *next, struct sigaction *old)
 SHOWN int sigaction(int number, const struct sigaction *next, struct sigaction *old)
 {
     if (number == SIGSEGV && swap_handler(next, old)) return 0;
-    if (number == SIGPWR && swap_stopper(next, old)) return 0;
+    if (number == mpgc_stopper && swap_stopper(next, old)) return 0;
     if (!next) return SET_HANDLER(number, NULL, old);
     struct sigaction open = *next;
     (void)mpgc_without_faults(&next->sa_mask, &open.sa_mask);
@@ -78,7 +78,7 @@ SHOWN __sighandler_t signal(int number, __sighandler_t handler)
 {
     struct sigaction next = { .sa_handler = handler, .sa_flags = SA_RESTART }, old;
     if (number == SIGSEGV && swap_handler(&next, &old)) return old.sa_handler;
-    if (number == SIGPWR && swap_stopper(&next, &old)) return old.sa_handler;
+    if (number == mpgc_stopper && swap_stopper(&next, &old)) return old.sa_handler;
     return ssignal(number, handler);
 }
 

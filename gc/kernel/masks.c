@@ -1,6 +1,7 @@
-// The C library's calls by which a program blocks signals, without SIGSEGV and SIGPWR: a write to a closed page while faults are blocked
-// would end the program, since the kernel can't hold back such a fault; and by the other one threads are stopped. Of other signals nothing
-// is different. Those by which it waits for signals leave the second out as well, which would be handed to it in place of its handler.
+// The C library's calls by which a program blocks signals, without SIGSEGV, and without SIGPWR or what it has named in its place: a write to a
+// closed page while faults are blocked would end the program, since the kernel can't hold back such a fault; and by the other one threads are
+// stopped. Of other signals nothing is different. Those by which it waits for signals leave the second out as well, which would be handed to it
+// in place of its handler.
 #include "../front.h"
 #include <errno.h>
 #include <pthread.h>
@@ -16,7 +17,7 @@ const sigset_t *mpgc_without_faults(const sigset_t *signals, sigset_t *room)
     if (!signals) return NULL;
     *room = *signals;
     sigdelset(room, SIGSEGV);
-    sigdelset(room, SIGPWR);  // by which threads are stopped
+    sigdelset(room, mpgc_stopper);
     room->__val[0] &= ~(3ul << 31);
     return room;
 }
@@ -26,7 +27,7 @@ static const sigset_t *without_stops(const sigset_t *signals, sigset_t *room)
 {
     if (!signals) return NULL;
     *room = *signals;
-    if (mpgc_is_threaded()) sigdelset(room, SIGPWR);
+    if (mpgc_is_threaded()) sigdelset(room, mpgc_stopper);
     return room;
 }
 
@@ -34,7 +35,7 @@ SHOWN int sigprocmask(int how, const sigset_t *restrict next, sigset_t *restrict
 {
     sigset_t room;
     mpgc_will_write(old, BYTES);
-    long answer = syscall(SYS_rt_sigprocmask, how, how == SIG_UNBLOCK ? next : mpgc_without_faults(next, &room), old, BYTES);
+    long answer = mpgc_call_kernel(SYS_rt_sigprocmask, how, how == SIG_UNBLOCK ? next : mpgc_without_faults(next, &room), old, BYTES);
     mpgc_wrote();
     return (int)answer;
 }
@@ -68,7 +69,7 @@ SHOWN int sigsuspend(const sigset_t *signals)
     sigset_t room;
     const sigset_t *blocked = mpgc_without_faults(signals, &room);
     int answer;
-    WAITS(answer, syscall(SYS_rt_sigsuspend, blocked, BYTES));
+    WAITS(answer, mpgc_call_kernel(SYS_rt_sigsuspend, blocked, BYTES));
     return answer;
 }
 
@@ -79,7 +80,7 @@ SHOWN int sigtimedwait(const sigset_t *restrict signals, siginfo_t *restrict int
     const sigset_t *wanted = without_stops(signals, &room);
     int number;
     mpgc_will_write(into, sizeof *into);
-    WAITS(number, syscall(SYS_rt_sigtimedwait, wanted, into, timeout, BYTES));
+    WAITS(number, mpgc_call_kernel(SYS_rt_sigtimedwait, wanted, into, timeout, BYTES));
     if (number != -1 && into && into->si_code == SI_TKILL) into->si_code = SI_USER;
     mpgc_wrote();
     return number;
@@ -101,5 +102,5 @@ SHOWN int sigwait(const sigset_t *restrict signals, int *restrict into)
 SHOWN int signalfd(int file, const sigset_t *signals, int flags)
 {
     sigset_t room;
-    return (int)syscall(SYS_signalfd4, file, mpgc_without_faults(signals, &room), BYTES, flags);
+    return (int)mpgc_call_kernel(SYS_signalfd4, file, mpgc_without_faults(signals, &room), BYTES, flags);
 }

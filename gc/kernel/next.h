@@ -48,6 +48,13 @@ __attribute__((unused)) static void mpgc_will_write_parts(const struct iovec *pa
     mpgc_will_write_span(&all);
 }
 
+// A thread of the C library's may call a function of the program: nobody sees it made.
+__attribute__((unused)) static void mpgc_may_call(const struct sigevent *event)
+{
+    bool makes_thread = event && event->sigev_notify == SIGEV_THREAD;
+    if (makes_thread && !mpgc_is_threaded() && GC_is_init_called() && mpgc_this_thread()) GC_allow_register_threads();
+}
+
 #define NEXT(answer, name, words) \
     static atomic_uintptr_t kept_; \
     answer(*const next) words = (answer(*) words)mpgc_next(&kept_, #name, "the C library has no " #name)

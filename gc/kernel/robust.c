@@ -20,11 +20,11 @@ static bool is_inside(const void *at) { return (uintptr_t)at - FIRST < MAX_PAGES
 static void say_that_its_owner_died(const void *next, long offset)
 {
     _Atomic uint32_t *word = (void *)((uintptr_t)&place_of(next)->__next + (uintptr_t)offset);
-    uint32_t seen = *word, own = (uint32_t)syscall(SYS_gettid);
+    uint32_t seen = *word, own = (uint32_t)mpgc_call_kernel(SYS_gettid);
     mpgc_will_write((void *)word, sizeof *word);
     while ((seen & FUTEX_TID_MASK) == own) {
         if (!atomic_compare_exchange_strong(word, &seen, (seen & FUTEX_WAITERS) | FUTEX_OWNER_DIED)) continue;
-        if (!((uintptr_t)next & INHERITS)) syscall(SYS_futex, word, FUTEX_WAKE, 1, NULL, NULL, 0);
+        if (!((uintptr_t)next & INHERITS)) mpgc_call_kernel(SYS_futex, word, FUTEX_WAKE, 1, NULL, NULL, 0);
         break;
     }
     mpgc_wrote();
@@ -35,7 +35,7 @@ void mpgc_give_up_mutexes(void)
 {
     struct robust_list_head *all = NULL;
     size_t bytes;
-    if (syscall(SYS_get_robust_list, 0, &all, &bytes) != 0 || !all || !all->list.next) return;
+    if (mpgc_call_kernel(SYS_get_robust_list, 0, &all, &bytes) != 0 || !all || !all->list.next) return;
     __pthread_list_t *first = place_of(&all->list), *at = first;
     while (place_of(at->__next) != first) {
         const void *next = at->__next;

@@ -52,6 +52,15 @@ LISTS(listxattr, const char *path, path)
 LISTS(llistxattr, const char *path, path)
 LISTS(flistxattr, int file, file)
 
+// Its handle, which says how long it may be.
+SHOWN int name_to_handle_at(int folder, const char *path, struct file_handle *into, int *mount, int flags)
+{
+    NEXT(int, name_to_handle_at, (int, const char *, struct file_handle *, int *, int));
+    if (into) mpgc_will_write(into, sizeof *into + into->handle_bytes);
+    mpgc_will_write(mount, sizeof *mount);
+    SAYS(next(folder, path, into, mount, flags));
+}
+
 // By which a program calls that was built for a C library before 2.33.
 #define OLD_STATS(end) \
     SHOWN int __xstat##end(int version, const char *path, struct stat##end *into); \

@@ -1,6 +1,7 @@
 // Calls of the C library by which the kernel writes into the program's memory: sockets, waiting, times, signals, devices. As syscalls.c
 // has those of files. Only in libmpgc.so. Those that wait with other signals blocked don't block faults (masks.c).
 #include "next.h"
+#include <net/if.h>
 #include <poll.h>
 #include <sched.h>
 #include <spawn.h>
@@ -208,7 +209,8 @@ SHOWN void arc4random_buf(void *into, size_t bytes)
 // Signals that came: those that are waited for are in masks.c.
 OPENS(int, sigpending, (sigset_t *into), (into), into, sizeof *into)
 
-// What a device writes is as long as its number says, where that says it, and else no more than a page, behind the pointer.
+// What a device writes is as long as its number says, where that says it, and else no more than a page, behind the pointer. The list of a
+// machine's interfaces lies where the program says there.
 SHOWN int ioctl(int file, unsigned long number, ...)
 {
     NEXT(int, ioctl, (int, unsigned long, void *));
@@ -216,6 +218,8 @@ SHOWN int ioctl(int file, unsigned long number, ...)
     va_start(rest, number);
     void *into = va_arg(rest, void *);
     va_end(rest);
+    const struct ifconf *list = number == SIOCGIFCONF ? into : NULL;
+    if (list && list->ifc_len > 0) mpgc_will_write(list->ifc_buf, (size_t)list->ifc_len);
     if (GC_is_heap_ptr(into)) mpgc_will_write(into, _IOC_SIZE(number) ? _IOC_SIZE(number) : PAGE);
     SAYS(next(file, number, into));
 }

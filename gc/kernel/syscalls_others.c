@@ -1,5 +1,5 @@
 // Calls of the C library by which the kernel writes into the program's memory, as in syscalls.c: queues, folders, and what is told of threads,
-// users and open files. And one by which it takes memory. Only in libmpgc.so.
+// users, open files and clocks. And one by which it takes memory. Only in libmpgc.so.
 #include "next.h"
 #include <dirent.h>
 #include <fcntl.h>
@@ -10,6 +10,7 @@
 #include <sys/mman.h>
 #include <sys/msg.h>
 #include <sys/resource.h>
+#include <sys/timex.h>
 #include <unistd.h>
 
 OPENS(int, eventfd_read, (int file, eventfd_t *into), (file, into), into, sizeof *into)
@@ -18,6 +19,21 @@ OPENS(ssize_t, msgrcv, (int queue, void *into, size_t bytes, long kind, int flag
 OPENS(int, pthread_getname_np, (pthread_t thread, char *into, size_t bytes), (thread, into, bytes), into, bytes)
 OPENS(int, pthread_getaffinity_np, (pthread_t thread, size_t bytes, cpu_set_t *into), (thread, bytes, into), into, bytes)
 OPENS(int, sched_getparam, (pid_t process, struct sched_param *into), (process, into), into, sizeof *into)
+OPENS(int, sched_rr_get_interval, (pid_t process, struct timespec *into), (process, into), into, sizeof *into)
+OPENS(int, adjtimex, (struct timex *into), (into), into, sizeof *into)
+OPENS(int, ntp_adjtime, (struct timex *into), (into), into, sizeof *into)
+OPENS(int, clock_adjtime, (clockid_t clock, struct timex *into), (clock, into), into, sizeof *into)
+OPENS(int, mincore, (void *from, size_t bytes, unsigned char *into), (from, bytes, into), into, (bytes + PAGE - 1) / PAGE)
+
+#define LISTS_FOLDER(end) \
+    SHOWN ssize_t getdirentries##end(int folder, char *restrict into, size_t bytes, __off##end##_t *restrict from) \
+    { \
+        NEXT(ssize_t, getdirentries##end, (int, char *, size_t, __off##end##_t *)); \
+        mpgc_will_write(into, bytes); \
+        SAYS(next(folder, into, bytes, from)); \
+    }
+LISTS_FOLDER()
+LISTS_FOLDER(64)
 
 // Where the limit of this process's data is made lower, closed pages wouldn't be opened any more.
 static void will_limit(pid_t process, int which, const struct rlimit64 *next_one)

@@ -5,6 +5,7 @@
 #include <stdarg.h>
 #include <sys/msg.h>
 #include <sys/prctl.h>
+#include <sys/ptrace.h>
 #include <sys/sem.h>
 #include <sys/shm.h>
 
@@ -61,4 +62,28 @@ SHOWN int prctl(int option, ...)
     va_end(rest);
     will_write_as_far((void *)words[0], MOST);
     SAYS(next(option, words[0], words[1], words[2], words[3]));
+}
+
+// Of another process, whose registers are most of what is told at once.
+SHOWN long ptrace(enum __ptrace_request request, ...)
+{
+    NEXT(long, ptrace, (enum __ptrace_request, pid_t, void *, void *));
+    va_list rest;
+    va_start(rest, request);
+    pid_t process = va_arg(rest, pid_t);
+    void *address = va_arg(rest, void *), *into = va_arg(rest, void *);
+    va_end(rest);
+    will_write_as_far(into, PAGE);
+    SAYS(next(request, process, address, into));
+}
+
+// What a process may do: as it is told by which version, in up to three words.
+SHOWN int capget(void *version, void *into);
+SHOWN int capget(void *version, void *into)
+{
+    enum { MOST = 3 * WORD };
+    NEXT(int, capget, (void *, void *));
+    will_write_as_far(version, WORD);
+    will_write_as_far(into, MOST);
+    SAYS(next(version, into));
 }

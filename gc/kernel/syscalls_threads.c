@@ -4,14 +4,13 @@
 #include <pthread.h>
 #include <threads.h>
 
-int GC_pthread_create(pthread_t *thread, const pthread_attr_t *attributes, void *(*start)(void *), void *data);
 int GC_pthread_join(pthread_t thread, void **answer);
 int GC_pthread_detach(pthread_t thread);
 _Noreturn void GC_pthread_exit(void *answer);
 
 SHOWN int pthread_create(pthread_t *restrict thread, const pthread_attr_t *restrict attributes, void *(*start)(void *), void *restrict data)
 {
-    return GC_pthread_create(thread, attributes, start, data);
+    return mpgc_create(thread, attributes, start, data, false);
 }
 SHOWN int pthread_join(pthread_t thread, void **answer) { return GC_pthread_join(thread, answer); }
 SHOWN int pthread_detach(pthread_t thread) { return GC_pthread_detach(thread); }
@@ -21,7 +20,7 @@ static int said(int status) { return status == 0 ? thrd_success : thrd_error; }
 
 SHOWN int thrd_create(thrd_t *thread, thrd_start_t start, void *data)
 {
-    return said(GC_pthread_create(thread, NULL, (void *(*)(void *))(void (*)(void))start, data));
+    return said(mpgc_create(thread, NULL, (void *(*)(void *))(void (*)(void))start, data, false));
 }
 SHOWN int thrd_join(thrd_t thread, int *answer)
 {

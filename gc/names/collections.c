@@ -47,7 +47,7 @@ static void let_others_run(void)
     GC_alloc_unlock();
     if (!mpgc_has_lock()) {
         mpgc_give_way();
-        syscall(SYS_nanosleep, &moment, NULL);
+        mpgc_call_kernel(SYS_nanosleep, &moment, NULL);
     }
     GC_alloc_lock();
 }
@@ -94,7 +94,7 @@ static void let_others_go_on(void)
 {
     enum { LOOKS = 20 };
     static const struct timespec moment = { 0, 50000 };
-    for (int k = 0; k < LOOKS && mpgc_is_one_standing(); k++) syscall(SYS_nanosleep, &moment, NULL);
+    for (int k = 0; k < LOOKS && mpgc_is_one_standing(); k++) mpgc_call_kernel(SYS_nanosleep, &moment, NULL);
 }
 
 // A request makes a step, and a large one more of them: another for as many words asked for since the last. But no more than it can wait for.

@@ -24,7 +24,7 @@ static atomic_bool sleeps;
 static void sleep_until_woken(uint32_t seen)
 {
     sleeps = true;
-    syscall(SYS_futex, &wakes, FUTEX_WAIT_PRIVATE, seen, NULL, NULL, 0);
+    mpgc_call_kernel(SYS_futex, &wakes, FUTEX_WAIT_PRIVATE, seen, NULL, NULL, 0);
     sleeps = false;
 }
 
@@ -83,7 +83,7 @@ static void let_a_moment_pass(void)
     static const struct timespec moment = { 0, 5 * MOMENT * 1000 };
     while (!mpgc_is_moment_over()) {
         GC_alloc_unlock();
-        syscall(SYS_nanosleep, &moment, NULL);
+        mpgc_call_kernel(SYS_nanosleep, &moment, NULL);
         GC_alloc_lock();
     }
 }
@@ -144,7 +144,7 @@ bool mpgc_wake_collector(bool may_start)
 {
     if (!is_there) return may_start && start();
     wakes++;
-    if (sleeps) syscall(SYS_futex, &wakes, FUTEX_WAKE_PRIVATE, 1, NULL, NULL, 0);
+    if (sleeps) mpgc_call_kernel(SYS_futex, &wakes, FUTEX_WAKE_PRIVATE, 1, NULL, NULL, 0);
     return true;
 }
 

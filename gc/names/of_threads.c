@@ -17,8 +17,6 @@ void *GC_get_my_stackbottom(struct GC_stack_base *base)
     return mpgc_this_thread();
 }
 
-int GC_thread_is_registered(void) { return mpgc_this_thread() != NULL; }
-
 __attribute__((noinline)) void *GC_call_with_stack_base(GC_stack_base_func function, void *data)
 {
     struct GC_stack_base base = { __builtin_frame_address(0) };
@@ -32,15 +30,17 @@ int GC_pthread_cancel(pthread_t thread) { return pthread_cancel(thread); }
 SHOWN int GC_pthread_sigmask(int how, const sigset_t *set, sigset_t *old);
 int GC_pthread_sigmask(int how, const sigset_t *set, sigset_t *old) { return pthread_sigmask(how, set, old); }
 
-// The signal by which threads are stopped, and none by which they go on. They are what they are.
+// The signal by which threads are stopped, and that by which they go on with bdwgc, and here don't.
 SHOWN int GC_get_suspend_signal(void);
-int GC_get_suspend_signal(void) { return SIGPWR; }
+int GC_get_suspend_signal(void) { return mpgc_stopper; }
+static int restarter = SIGXCPU;
 SHOWN int GC_get_thr_restart_signal(void);
-int GC_get_thr_restart_signal(void) { return SIGXCPU; }
-SHOWN void GC_set_suspend_signal(int number);
-void GC_set_suspend_signal(int number) { (void)number; }
+int GC_get_thr_restart_signal(void) { return restarter; }
 SHOWN void GC_set_thr_restart_signal(int number);
-void GC_set_thr_restart_signal(int number) { (void)number; }
+void GC_set_thr_restart_signal(int number)
+{
+    if (!GC_is_init_called()) restarter = number;
+}
 
 static GC_on_thread_event_proc tell_of_thread;
 LOCKED_SETTING(GC_on_thread_event_proc, tell_of_thread, GC_set_on_thread_event, GC_get_on_thread_event)

@@ -256,6 +256,7 @@ void GC_enable_incremental(void)
     GC_init();
     if (GC_dont_gc || GC_find_leak || getenv("GC_DISABLE_INCREMENTAL")) return;
     is_incremental = true;
+    mpgc_will_close();
     settle();
     mpgc_figures.next = 0;
 }

@@ -93,7 +93,7 @@ GC_API int GC_is_disabled(void);
 /* While a cycle marks, pages of ordinary objects are write-protected, and never those of atomic ones. A system call that the
  * program makes and that writes into an ordinary object then answers EFAULT, as with bdwgc; libmpgc.so opens the pages first
  * for read, recv, stat, poll, select, wait and their kin, fread, getcwd, readlink, pipe, accept and its kin, clocks and timers,
- * random bytes and ioctl (docs/PROGRAMS.md has them all). Use atomic objects as buffers of others. */
+ * random bytes and ioctl (docs/programs/SYSTEM_CALLS.md has them all). Use atomic objects as buffers of others. */
 #define GC_PROTECTS_NONE 0
 #define GC_PROTECTS_POINTER_HEAP 1
 #define GC_PROTECTS_PTRFREE_HEAP 2
@@ -410,10 +410,10 @@ GC_API int GC_get_parallel(void);
 GC_API void GC_set_markers_count(unsigned count);
 GC_API void GC_start_mark_threads(void);
 #ifdef GC_THREADS
-GC_API int GC_get_suspend_signal(void); /* SIGPWR, and no other where one is set */
-GC_API void GC_set_suspend_signal(int number); /* no effect */
+GC_API int GC_get_suspend_signal(void); /* SIGPWR, or that which was set before the first call */
+GC_API void GC_set_suspend_signal(int number);
 GC_API int GC_get_thr_restart_signal(void);
-GC_API void GC_set_thr_restart_signal(int number); /* no effect */
+GC_API void GC_set_thr_restart_signal(int number); /* it is told, and has no effect */
 GC_API void GC_register_altstack(void *stack, GC_word bytes, void *altstack, GC_word altstack_bytes); /* no effect */
 GC_API void GC_stop_world_external(void);
 GC_API void GC_start_world_external(void);

@@ -3,6 +3,7 @@
  * cycles close pages beside them. */
 #define _GNU_SOURCE
 #define GC_THREADS
+#include <dirent.h>
 #include <dlfcn.h>
 #include <errno.h>
 #include <fcntl.h>
@@ -10,13 +11,17 @@
 #include <pthread.h>
 #include <stdint.h>
 #include <sys/msg.h>
+#include <sys/mman.h>
 #include <sys/prctl.h>
+#include <sys/ptrace.h>
 #include <sys/resource.h>
 #include <sys/sem.h>
 #include <sys/shm.h>
 #include <sys/socket.h>
 #include <sys/stat.h>
+#include <sys/timex.h>
 #include <sys/uio.h>
+#include <sys/user.h>
 #include <sys/xattr.h>
 #include "check.h"
 #include "cycle.h"
@@ -107,6 +112,42 @@ static void of_processes(void)
     CHECK(__getgroups_chk(100, place(), 100 * sizeof(gid_t)) >= 0);
 }
 
+/* What a process that is traced has in its registers. */
+static void of_a_traced_one(void)
+{
+    struct user_regs_struct *registers = place();
+    pid_t child = fork();
+    if (child == 0) {
+        ptrace(PTRACE_TRACEME, 0, NULL, NULL);
+        raise(SIGSTOP);
+        _exit(0);
+    }
+    waitpid(child, NULL, 0);
+    CHECK(ptrace(PTRACE_GETREGS, child, NULL, registers) == 0 && registers->rsp != 0);
+    kill(child, SIGKILL);
+    waitpid(child, NULL, 0);
+}
+
+extern int capget(void *version, void *into);
+static void of_what_few_ask(void)
+{
+    struct timespec *slice = place();
+    struct timex *clock = place(), *other = place();
+    unsigned char *is_there = place();
+    char *entries = place();
+    struct file_handle *handle = place();
+    uint32_t *version = place();
+    off_t *from = place();
+    int folder = open("/", O_RDONLY | O_DIRECTORY);
+    CHECK(sched_rr_get_interval(0, slice) == 0);
+    CHECK(adjtimex(clock) >= 0 && clock->tick > 0 && clock_adjtime(CLOCK_REALTIME, other) >= 0 && ntp_adjtime(place()) >= 0);
+    CHECK(mincore((void *)((uintptr_t)ordinary & ~(uintptr_t)4095), 1, is_there) == 0 && (*is_there & 1));
+    CHECK(getdirentries(folder, entries, 1000, from) > 0 && getdirentries64(folder, place(), 1000, place()) >= 0);
+    CHECK(capget(version, NULL) == 0 && *version != 0);
+    CHECK(name_to_handle_at(AT_FDCWD, "/", handle, place(), 0) != 0 && errno != EFAULT);
+    close(folder);
+}
+
 static void of_old_names(void)
 {
     int (*by_path)(int, const char *, struct stat *), (*by_file)(int, int, struct stat *);
@@ -186,6 +227,8 @@ int main(void)
     of_what_is_shared();
     of_processes();
     of_old_names();
+    of_a_traced_one();
+    of_what_few_ask();
     end();
     if (pipe(wires) == 0) beside_cycles(read_many, PARTS);
     if (socketpair(AF_UNIX, SOCK_DGRAM, 0, wires) == 0) beside_cycles(receive_many, MESSAGES);

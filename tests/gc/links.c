@@ -79,6 +79,7 @@ static NOINLINE void registrations(void)
     CHECK(GC_unregister_disappearing_link(word(0)) == 0);
     CHECK(GC_unregister_disappearing_link(word(1)) == 1 && GC_unregister_disappearing_link(word(1)) == 0);
     CHECK(GC_register_long_link(word(1), strong[1]) == GC_SUCCESS && GC_register_long_link(word(1), strong[1]) == GC_DUPLICATE);
+    CHECK(GC_unregister_disappearing_link((void **)((char *)word(1) + 1)) == 0);
     CHECK(GC_unregister_disappearing_link(word(1)) == 0 && GC_move_long_link(word(1), word(4)) == GC_SUCCESS);
     CHECK(GC_unregister_long_link(word(1)) == 0 && GC_unregister_long_link(word(4)) == 1);
     CHECK(GC_unregister_disappearing_link(word(3)) == 1);

@@ -7,8 +7,9 @@
 # and no way leads from it to another use of the same operand, to itself, or from another use to it, on which none of the operand's registers
 # is written: by that the word would be looked at twice. What registers have behind a jump that is always taken is what they had at the first
 # jump to there. A load whose address is computed from the negated first address, or that of the word behind it, is one of the heap too: the
-# first two words of an object, which are looked at later. And no function of the marker may load a vector, but from its stack. What lies on the
-# stack, or far behind a pointer, is a field of the marker's own. It ends with how many places there are, of which it has to find some.
+# first two words of an object, which are looked at later. And no function of the marker may load a vector, but from its stack, or of 8 bytes from a
+# field, as entries are copied. What lies on the stack, or far behind a pointer, is a field of the marker's own. It ends with how many places
+# there are, of which it has to find some.
 # (0xffffab0000000000 is that address negated.)
 set -euo pipefail
 least=8
@@ -116,7 +117,9 @@ awk -v least=$least '
         into = text ~ /,%[a-z0-9]+$/ ? substr(text, match(text, /%[a-z0-9]+$/)) : ""
         pointer = place
         gsub(/.*\(|[,)].*/, "", pointer)
-        if (into ~ /%[xyz]mm/ && place != "" && place !~ /%rsp/ && !(pointer in of_stack)) wrong("a vector is loaded")
+        is_field = place ~ /%rsp/ || place ~ /^0x([4-9a-f][0-9a-f]|[0-9a-f][0-9a-f][0-9a-f]+)\(/
+        copies_field = is_field && operation == "movsd"
+        if (into ~ /%[xyz]mm/ && place != "" && place !~ /%rsp/ && !(pointer in of_stack) && !copies_field) wrong("a vector is loaded")
     }
     # The word that is looked at: the number stands in another register.
     { word = ""; split(text, part, /[(),]+/) }
@@ -143,7 +146,6 @@ awk -v least=$least '
         is_whole = operation == "mov" && into ~ /^%r/ && into !~ /^%r[0-9]+[dwb]$/
         into = whole(into)
         writes[NR] = into
-        is_field = place ~ /%rsp/ || place ~ /^0x([4-9a-f][0-9a-f]|[0-9a-f][0-9a-f][0-9a-f]+)\(/
         copied = operation == "mov" && text ~ /[ \t]%r[a-z0-9]+,%r[a-z0-9]+$/ ? text : ""
         sub(/^mov[ \t]+/, "", copied)
         sub(/,.*/, "", copied)

@@ -41,7 +41,7 @@ static void collect(void)
     }
 }
 
-/* A thread that the library wasn't told of. */
+/* A thread that the program hasn't told of, whether the library has seen it made or not. */
 static void *unknown(void *data)
 {
     struct GC_stack_base base;
@@ -59,11 +59,11 @@ static void *unknown(void *data)
     CHECK(!GC_thread_is_registered());
     return data;
 }
-static void registering(void)
+static void registering(int (*create)(pthread_t *, const pthread_attr_t *, void *(*)(void *), void *))
 {
     pthread_t thread;
     CHECK(GC_thread_is_registered());
-    others_create(&thread, NULL, unknown, NULL);
+    create(&thread, NULL, unknown, NULL);
     sem_wait(&at_rest);
     collect();
     sem_post(&may_go);
@@ -301,7 +301,8 @@ int main(void)
     GC_INIT();
     if (getenv("INCREMENTAL")) GC_enable_incremental();
     GC_allow_register_threads();
-    registering();
+    registering(others_create);
+    registering(pthread_create);
     handling();
     do_blocking();
     events();

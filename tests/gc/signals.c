@@ -1,5 +1,6 @@
 /* Signals that the program blocks, handles, waits for and sends, while a cycle marks: a write to a closed page is done in each case. */
 #define _GNU_SOURCE
+#define GC_THREADS
 #include <dlfcn.h>
 #include <errno.h>
 #include <poll.h>
@@ -245,9 +246,37 @@ static int faults_hold_off_cancelling(void)
     return answer != 0 || !(now.mask >> 31 & 1);
 }
 
+/* A program that names another signal for stops has SIGPWR to itself. */
+static volatile sig_atomic_t came;
+static _Atomic int is_enough;
+static void count(int number) { came += number == SIGPWR; }
+static void *ask_on(void *data)
+{
+    while (!is_enough) GC_malloc(64);
+    return data;
+}
+static int another_one_stops(void)
+{
+    enum { TIMES = 20 };
+    pthread_t thread;
+    GC_set_suspend_signal(SIGRTMIN + 5);
+    GC_INIT();
+    GC_set_suspend_signal(SIGUSR2); /* too late */
+    signal(SIGPWR, count);
+    pthread_create(&thread, NULL, ask_on, NULL);
+    for (int k = 0; k < TIMES; k++) {
+        GC_gcollect();
+        raise(SIGPWR);
+    }
+    is_enough = 1;
+    pthread_join(thread, NULL);
+    return came != TIMES || GC_get_suspend_signal() != SIGRTMIN + 5;
+}
+
 int main(void)
 {
     CHECK(status_of(asks_in_the_first_request) == 0);
+    CHECK(status_of(another_one_stops) == 0);
     GC_INIT();
     GC_enable_incremental();
     CHECK(status_of(faults_hold_off_cancelling) == 0);

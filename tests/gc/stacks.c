@@ -1,7 +1,7 @@
 /* Stacks of the program's own, between which its threads move, each in turn: on each lies the only pointer to a list. Those on which no
  * thread is are pushed by the function of other roots. Over bdwgc (OTHER) too.
  *
- *     ALONE=1 stacks    the first thread says where it is by GC_stackbottom, a moment before it moves
+ *     ALONE=1 stacks    the first thread says where it is by GC_stackbottom, a moment before it moves; TOLD=1 by GC_set_stackbottom
  *     stacks            several threads: one that moves holds off the start of a collection, which holds off those that would move, until
  *                       that function has said on which stack each is */
 #define _GNU_SOURCE
@@ -26,7 +26,7 @@ struct stack { ucontext_t at; char *bottom; int waits; };
 struct mover { struct stack stacks[STACKS]; int here; void *handle; };
 
 static struct mover movers[THREADS];
-static int is_alone;
+static int is_alone, is_told;
 static _Atomic int lost, holds, movers_now;
 static GC_push_other_roots_proc others;
 
@@ -62,10 +62,19 @@ static void push_all(void)
     if (others) others();
 }
 
+/* And does something else before it moves. */
+static void say(char *bottom)
+{
+    GC_set_stackbottom(NULL, &(struct GC_stack_base){ .mem_base = bottom });
+    for (volatile int k = 0; k < 3000; k++) continue;
+}
+
 static void move(struct mover *mover, int there)
 {
     struct stack *from = &mover->stacks[mover->here], *to = &mover->stacks[there];
-    if (is_alone)
+    if (is_told)
+        say(to->bottom);
+    else if (is_alone)
         GC_stackbottom = to->bottom;
     else
         hold();
@@ -150,7 +159,8 @@ int main(void)
 {
     pthread_t threads[THREADS];
     pid_t watcher = watch(60);
-    is_alone = getenv("ALONE") != NULL;
+    is_told = getenv("TOLD") != NULL;
+    is_alone = is_told || getenv("ALONE") != NULL;
     GC_set_free_space_divisor(40);
     GC_INIT();
     if (getenv("INCREMENTAL")) GC_enable_incremental();

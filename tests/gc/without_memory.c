@@ -1,4 +1,4 @@
-/* Where malloc has no memory left: a thread isn't made, a key isn't set to an object, a link isn't registered, and a typed object is
+/* Where malloc has no memory left: a thread's stack is found, another one isn't made, a key isn't set to an object, a link isn't registered, and a typed object is
  * answered by the program's function for memory that runs out; all of it is done when there is some again, and nothing is lost meanwhile. */
 #define _GNU_SOURCE
 #define GC_THREADS
@@ -43,6 +43,35 @@ static int makes_no_thread(void)
     free(spare);
     if (GC_pthread_create(&thread, NULL, answer_it, &thread) != 0 || GC_pthread_join(thread, &answer) != 0) return 3;
     return answer == &thread ? 0 : 4;
+}
+
+/* The C library doesn't tell of a stack then: of one whose end is taken for the first one's a collection would read what isn't there. */
+static int finds_its_stack(void)
+{
+    enum { LARGEST_STACK = 1 << 26 };
+    struct GC_stack_base base;
+    char here;
+    if (GC_get_stack_base(&base) != GC_SUCCESS) return 1;
+    uintptr_t end = (uintptr_t)base.mem_base;
+    return end > (uintptr_t)&here && end - (uintptr_t)&here < LARGEST_STACK ? 0 : 2;
+}
+static void *looks(void *data)
+{
+    int *answer = data;
+    *answer = takes_all() ? finds_its_stack() : 3;
+    free(spare);
+    GC_gcollect();
+    return data;
+}
+static int finds_stacks(void)
+{
+    pthread_t thread;
+    int answer = 4;
+    GC_INIT();
+    GC_allow_register_threads();
+    if (GC_pthread_create(&thread, NULL, looks, &answer) != 0 || GC_pthread_join(thread, NULL) != 0 || answer != 0) return answer;
+    while (malloc(LEAST)) continue;
+    return finds_its_stack();
 }
 
 static int sets_no_key(void)
@@ -104,6 +133,7 @@ static int makes_no_typed_object(void)
 
 int main(void)
 {
+    CHECK(status_of(finds_stacks) == 0);
     CHECK(status_of(makes_no_thread) == 0);
     CHECK(status_of(sets_no_key) == 0);
     CHECK(status_of(registers_no_link) == 0);
