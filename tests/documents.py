@@ -37,7 +37,8 @@ def clone(to):
 
 def others(tree):
     """The other documents, of which only the names are looked at; the history of changes names what went."""
-    found = {os.path.relpath(path, tree) for path in glob.glob(f"{tree}/*.md") + glob.glob(f"{tree}/*/*.md")}
+    forms = ("*.md", "*/*.md", "docs/*/*.md")
+    found = {os.path.relpath(path, tree) for form in forms for path in glob.glob(f"{tree}/{form}")}
     return sorted(found - {*DOCUMENTS, "CHANGELOG.md"})
 
 
