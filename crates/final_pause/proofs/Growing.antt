@@ -1,5 +1,6 @@
 -- How what a helper knows, won and awaits grows.
 use Rattle.std.proofs.Common.{◌≡◌, ℕ, ◌*◌, ◌<◌, Bool, List, [], ◌∷◌, ◌++◌, true, false, Contains, Option, Some, length, refl, sym, ap, subst, ◌∙◌, inl, inr, ⊎_elim, arith}
+use Rattle.std.specs.Prelude.{◌⊎◌}
 use Rattle.std.proofs.lemmas.Option.{same_Some}
 use Rattle.std.proofs.lemmas.List.Elements.{Contains-append_cases, Contains-append_left, Contains-append_right}
 use Rattle.words.specs.declared.class.Kind.TheVariants.{Normal}
@@ -86,7 +87,7 @@ module _ (p : PauseView) where
   pub only_more : (P Q : ℕ → Type 0) (a b : Helper) → ((w : ℕ) → P w → Q w) → ClaimsOnly p P a b → ClaimsOnly p Q a b
   only_more P Q a b more x = record {
     won = λ k h. ⊎_elim (λ m. inl m) (λ (r : (f : Found) × IsPointedInto p P f × (granule f.base ≡ k)). inr (r.0, into_more P Q r.0 more r.1, r.2)) (x.won k h);
-    entries = λ e h. ⊎_elim (λ m. inl m) (λ (r : (f : Found) × IsPointedInto p P f × (f.base ≡ e) × (f.kind ≡ Normal)). inr (r.0, into_more P Q r.0 more r.1, r.2, r.3)) (x.entries e h);
+    entries = λ e h. ⊎_elim (λ m. inl m) (λ (r : IsPointedInto p P e × (e.kind ≡ Normal)). inr (into_more P Q e more r.0, r.1)) (x.entries e h);
   }
 
   target_is : (w : ℕ) (g : Found) (v : ClaimerView) → found p w ≡ Some g → knows v (granule g.base) ≡ true → IsTargetKnown p v w
@@ -126,7 +127,7 @@ module _ (p : PauseView) where
           carried = λ q h. subst (λ d. Has d q) (sym ca) h;
           waiting = λ k h. subst (λ s. Contains s k) (sym st) h;
           fresh = λ f o c. inl (subst (λ l. Contains l (granule f.base)) wo c);
-          own = λ o k c. subst (λ l. Contains l (granule k)) (sym wo) (o k (subst (λ s. Contains s k) st c));
+          own = λ o k c. subst (λ l. Contains l (granule k.base)) (sym wo) (o k (subst (λ s. Contains s k) st c));
           left = omega (arith, u, s);
         };
         carried = ca;
@@ -169,8 +170,8 @@ module _ (p : PauseView) where
               (λ h. inl h)
               (contains_cons (granule g.base) (granule f.base) (won_of old) (subst (λ l. Contains l (granule f.base)) same c));
           own = λ o k c. ⊎_elim
-              (λ h. subst (λ l. Contains l (granule k)) (sym same) (contains_more (granule g.base) (granule k) (won_of old) (o k (subst (λ s. Contains s k) st h))))
-              (λ (h : (k ≡ g.base) × (g.kind ≡ Normal)). subst (λ (n : ℕ). Contains (won_of new) (granule n)) (sym h.0) won')
+              (λ h. subst (λ l. Contains l (granule k.base)) (sym same) (contains_more (granule g.base) (granule k.base) (won_of old) (o k (subst (λ s. Contains s k) st h))))
+              (λ (h : (k ≡ g) × (g.kind ≡ Normal)). subst (λ (f : Found). Contains (won_of new) (granule f.base)) (sym h.0) won')
               (keep.entries k c);
           left = omega (arith, u, s, z);
         };
@@ -183,7 +184,7 @@ module _ (p : PauseView) where
               (contains_cons (granule g.base) k (won_of old) (subst (λ l. Contains l k) same c));
           entries = λ k c. ⊎_elim
               (λ h. inl (subst (λ s. Contains s k) st h))
-              (λ (h : (k ≡ g.base) × (g.kind ≡ Normal)). inr (g, record { word = w; one = refl; points = e }, sym h.0, h.1))
+              (λ (h : (k ≡ g) × (g.kind ≡ Normal)). subst (λ (f : Found). Contains old.waiting f ⊎ (IsPointedInto p (λ v. v ≡ w) f × (f.kind ≡ Normal))) (sym h.0) (inr (record { word = w; one = refl; points = e }, h.1)))
               (keep.entries k c);
         };
       }

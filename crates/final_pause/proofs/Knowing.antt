@@ -1,4 +1,4 @@
--- What a claimer doesn't know yet grows less, and how lists of bases and granules are looked at.
+-- What a claimer doesn't know yet grows less, and what a list contains.
 use Rattle.std.proofs.Common.{◌≡◌, ℕ, zero, suc, ◌+◌, ◌<◌, ◌≤◌, List, [], ◌∷◌, Bool, true, false, Contains, refl, sym, ap, ◌∙◌, inl, inr, ⊎_elim, subst, arith}
 use Rattle.std.specs.Prelude.{◌⊎◌}
 use Rattle.std.proofs.lemmas.Bool.{false≢true, cases_eq}
@@ -29,19 +29,19 @@ unknown_lt (suc n) k v w h lt out in' =
     (λ ne. let i = unknown_lt n k v w h (omega (arith, lt, ne)) out in' in let o = one_less (knows v n) (knows w n) (h n) in omega (arith, i, o))
     (cases_eq k n)
 
-pub contains_one : (x y : ℕ) → Contains (x ∷ []) y → x ≡ y
+pub contains_one : {T : Type 0} (x y : T) → Contains (x ∷ []) y → x ≡ y
 contains_one x y (zero, lt, e) = e
 contains_one x y (suc i, lt, e) = absurd (omega (arith, lt))
 
-pub contains_cons : (x y : ℕ) (xs : List ℕ) → Contains (x ∷ xs) y → (x ≡ y) ⊎ Contains xs y
+pub contains_cons : {T : Type 0} (x y : T) (xs : List T) → Contains (x ∷ xs) y → (x ≡ y) ⊎ Contains xs y
 contains_cons x y xs h =
     ⊎_elim (λ (c : Contains (x ∷ []) y). inl (contains_one x y c)) (λ c. inr c) (Contains-append_cases (x ∷ []) xs y h)
 
-pub contains_more : (x y : ℕ) (xs : List ℕ) → Contains xs y → Contains (x ∷ xs) y
+pub contains_more : {T : Type 0} (x y : T) (xs : List T) → Contains xs y → Contains (x ∷ xs) y
 contains_more x y xs h = let lt = h.1 in (suc h.0, omega (arith, lt), h.2)
 
-pub contains_here : (x : ℕ) (xs : List ℕ) → Contains (x ∷ xs) x
+pub contains_here : {T : Type 0} (x : T) (xs : List T) → Contains (x ∷ xs) x
 contains_here x xs = (0, omega arith, refl)
 
-pub none_in : (l : List ℕ) (b : ℕ) → l ≡ [] → Contains l b → ⊥
-none_in l b is c = let h : Contains [] b = subst (λ (m : List ℕ). Contains m b) is c in let lt = h.1 in absurd (omega (arith, lt))
+pub none_in : {T : Type 0} (l : List T) (b : T) → l ≡ [] → Contains l b → ⊥
+none_in l b is c = let h : Contains [] b = subst (λ m. Contains m b) is c in let lt = h.1 in absurd (omega (arith, lt))

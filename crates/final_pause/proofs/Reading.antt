@@ -56,7 +56,7 @@ module _ (p : PauseView) where
     carried = more;
     waiting = λ k h. subst (λ s. Contains s k) (sym st) h;
     fresh = λ f e h. inl (subst (λ d. Contains (view d).won (granule f.base)) cl h);
-    own = λ o k h. subst (λ d. Contains (view d).won (granule k)) (sym cl) (o k (subst (λ s. Contains s k) st h));
+    own = λ o k h. subst (λ d. Contains (view d).won (granule k.base)) (sym cl) (o k (subst (λ s. Contains s k) st h));
     left =
         let u : unknown (length (start_of p.table)) (view c.claimer) ≡ unknown (length (start_of p.table)) (view b.claimer) = ap (λ h. unknown (length (start_of p.table)) (view h)) cl in
         let s : length c.waiting ≡ length b.waiting = ap (λ s. length s) st in

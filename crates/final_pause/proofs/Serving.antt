@@ -25,7 +25,7 @@ use Rattle.final_pause.specs.Pauses.{PauseView}
 use Rattle.final_pause.specs.Dealing.{rank}
 use Rattle.final_pause.specs.Waiting.{IsTaken}
 use Rattle.final_pause.specs.Helping.{found, won_of, IsHelperOf, HelperGrows, IsWordRead, IsAwaitedBy, QueuesObject, AreWon, HasStrayOn, IsPointedInto, ClaimsOnly, IsWordOf, Visits, ReadsWords, ReadsOwn}
-use Rattle.final_pause.specs.Serving.{IsReachable, IsReachedAt, IsQueuedAt, IsServing, GoesOnServing, IsRunRead, IsEntryRead, AreRootsRead, AreEntriesRead, IsTurn, AreWordsRead, ArePagesRead, IsShareRead}
+use Rattle.final_pause.specs.Serving.{IsReachable, IsReachedAt, IsQueued, IsServing, GoesOnServing, IsRunRead, IsEntryRead, AreRootsRead, AreEntriesRead, IsTurn, AreWordsRead, ArePagesRead, IsShareRead}
 use Rattle.final_pause.proofs.Growing.{target_more, word_more, awaited_more, page_more}
 
 module _ (p : PauseView) where
@@ -56,12 +56,12 @@ module _ (p : PauseView) where
   stray_on f is normal reached q s = record { object = f; is = is; normal = normal; reached = reached; index = s.index; inside = s.inside; on = s.on; stray = s.stray }
 
   module _ (map : IsMap (length p.map) (found p)) (P : ℕ → Type 0) (reach : (w : ℕ) → P w → (g : Found) → found p w ≡ Some g → IsReachable p g) (a b : Helper) (only : ClaimsOnly p P a b) where
-    pub queued_more : ((k : ℕ) → Contains a.waiting k → IsQueuedAt p k) → (k : ℕ) → Contains b.waiting k → IsQueuedAt p k
-    queued_more q k c = ⊎_elim (λ h. q k h)
-        (λ (r : (f : Found) × IsPointedInto p P f × (f.base ≡ k) × (f.kind ≡ Normal)).
-        let t = r.1 in
-        record { object = r.0; is = at_base (length p.map) (found p) map t.word r.0 t.points; base_is = r.2; normal = r.3; reached = reach t.word t.one r.0 t.points })
-        (only.entries k c)
+    pub queued_more : ((f : Found) → Contains a.waiting f → IsQueued p f) → (f : Found) → Contains b.waiting f → IsQueued p f
+    queued_more q f c = ⊎_elim (λ h. q f h)
+        (λ (r : IsPointedInto p P f × (f.kind ≡ Normal)).
+        let t = r.0 in
+        record { is = at_base (length p.map) (found p) map t.word f t.points; normal = r.1; reached = reach t.word t.one f t.points })
+        (only.entries f c)
 
     pub within_more : ((k : ℕ) → Contains (won_of a) k → IsReachedAt p k) → (k : ℕ) → Contains (won_of b) k → IsReachedAt p k
     within_more q k c = ⊎_elim (λ h. q k h)
@@ -85,14 +85,27 @@ module _ (p : PauseView) where
     }
 
   -- at the base of what waits stands a word
-  pub waiting_words : (h : Helper) → IsServing p h → (b : ℕ) → Contains h.waiting b → IsWordAddress p.memory b
-  waiting_words h s b c =
-      let q = s.queued b c in let placed = s.fits.ready.map.placed q.object.base q.object q.is in
-      let at = q.base_is in let aligned = placed.aligned in let above = placed.above in let below = placed.below in let some = placed.some in let size = s.fits.ready.memory in
+  pub waiting_words : (h : Helper) → IsServing p h → (f : Found) → Contains h.waiting f → IsWordAddress p.memory f.base
+  waiting_words h s f c =
+      let q = s.queued f c in let placed = s.fits.ready.map.placed f.base f q.is in
+      let aligned = placed.aligned in let above = placed.above in let below = placed.below in let some = placed.some in let size = s.fits.ready.memory in
       record { aligned = omega arith; above = omega arith; below = omega arith }
 
   pub serves_refl : (h : Helper) → IsServing p h → GoesOnServing p h h
   serves_refl h s = record { serving = s; place = refl; learns = record { right = refl; known = λ k e. e }; carried = λ q h. h }
+
+  -- how many words a helper may still read says nothing of what it has done
+  pub serves_any : (h : Helper) (n : ℕ) → IsServing p h → IsServing p (record h { left = n })
+  serves_any h n s = record {
+    fits = record { ready = s.fits.ready; of = s.fits.of; dirty = s.fits.dirty; carried = s.fits.carried };
+    part = s.part;
+    won = s.won;
+    dirtied = s.dirtied;
+    strays = s.strays;
+    queued = s.queued;
+    within = s.within;
+    own = s.own;
+  }
 
   pub serves_trans : (a b c : Helper) → GoesOnServing p a b → GoesOnServing p b c → GoesOnServing p a c
   serves_trans a b c x y = record {
@@ -129,53 +142,28 @@ module _ (p : PauseView) where
   serves_own map f first n a b reached normal r s = serves_reads map f a b reached normal r.extends r.strays r.only s
 
   -- one that waited is taken out
-  module _ (map : IsMap (length p.map) (found p)) (a m : Helper) (base : ℕ) (f : Found)
-      (claimer : m.claimer ≡ a.claimer) (dirty : m.dirty ≡ a.dirty) (carried : m.carried ≡ a.carried) (place : m.place ≡ a.place) (taken : IsTaken a.waiting base m.waiting)
-      (is : found p base ≡ Some f) (s : IsServing p a) where
-    base_in : Contains a.waiting base
-    base_in = taken.was
+  module _ (map : IsMap (length p.map) (found p)) (a m : Helper) (f : Found)
+      (claimer : m.claimer ≡ a.claimer) (dirty : m.dirty ≡ a.dirty) (carried : m.carried ≡ a.carried) (place : m.place ≡ a.place) (taken : IsTaken a.waiting f m.waiting)
+      (s : IsServing p a) where
+    here : IsQueued p f
+    here = s.queued f taken.was
 
-    here : IsQueuedAt p base
-    here = s.queued base base_in
-
-    same : here.object ≡ f
-    same = same_Some here.object f (sym here.is ∙ (ap (found p) here.base_is ∙ is))
-
-    reached : IsReachable p f
-    reached = subst (IsReachable p) same here.reached
-
-    normal : f.kind ≡ Normal
-    normal = ap (λ (g : Found). g.kind) (sym same) ∙ here.normal
-
-    f_base : f.base ≡ base
-    f_base = ap (λ (g : Found). g.base) (sym same) ∙ here.base_is
-
-    still_there : (k : ℕ) → Contains a.waiting k → Contains m.waiting k ⊎ (base ≡ k)
-    still_there k c = taken.stay k c
-
-    was_there : (k : ℕ) → Contains m.waiting k → Contains a.waiting k
-    was_there k c = taken.only k c
-
-    -- the object at the base is this one
-    at_this : (g : Found) → found p g.base ≡ Some g → base ≡ g.base → f ≡ g
-    at_this g o e = same_Some f g (sym is ∙ (ap (found p) e ∙ o))
-
-    before : (k : ℕ) → Contains m.waiting k → IsQueuedAt p k
-    before k c = s.queued k (was_there k c)
+    before : (g : Found) → Contains m.waiting g → IsQueued p g
+    before g c = s.queued g (taken.only g c)
 
     won_before : (k : ℕ) → Contains (won_of m) k → Contains (won_of a) k
     won_before k c = subst (λ h. Contains (view h).won k) claimer c
 
     own_before : AreWon m
-    own_before k c = subst (λ h. Contains (view h).won (granule k)) (sym claimer) (s.own k (was_there k c))
+    own_before g c = subst (λ h. Contains (view h).won (granule g.base)) (sym claimer) (s.own g (taken.only g c))
 
     -- and its object is read
     module _ (b : Helper) (r : ReadsWords p f 0 f.len m b) where
       x : HelperGrows p m b
       x = r.extends
 
-      stays_there : (k : ℕ) → Contains a.waiting k → Contains b.waiting k ⊎ (base ≡ k)
-      stays_there k c = ⊎_elim (λ h. inl (x.waiting k h)) (λ e. inr e) (still_there k c)
+      stays_there : (g : Found) → Contains a.waiting g → Contains b.waiting g ⊎ (f ≡ g)
+      stays_there g c = ⊎_elim (λ h. inl (x.waiting g h)) (λ e. inr e) (taken.stay g c)
 
       known : (k : ℕ) → knows (view a.claimer) k ≡ true → knows (view b.claimer) k ≡ true
       known k h = x.learns.known k (ap (λ c. knows (view c) k) claimer ∙ h)
@@ -183,11 +171,10 @@ module _ (p : PauseView) where
       carried_on : (q : ℕ) → Has a.carried q → Has b.carried q
       carried_on q h = x.carried q (subst (λ c. Has c q) (sym carried) h)
 
-      read_here : (g : Found) → found p g.base ≡ Some g → base ≡ g.base → (i : ℕ) → i < g.len → IsWordRead p (view b.claimer) b.carried g i
-      read_here g o e i lt =
-          let is_f = at_this g o e in
-          let lt' : i < f.len = subst (λ (y : Found). i < y.len) (sym is_f) lt in
-          subst (λ (y : Found). IsWordRead p (view b.claimer) b.carried y i) is_f (r.read i (omega arith) (omega (arith, lt')))
+      read_here : (g : Found) → f ≡ g → (i : ℕ) → i < g.len → IsWordRead p (view b.claimer) b.carried g i
+      read_here g e i lt =
+          let lt' : i < f.len = subst (λ (y : Found). i < y.len) (sym e) lt in
+          subst (λ (y : Found). IsWordRead p (view b.claimer) b.carried y i) e (r.read i (omega arith) (omega (arith, lt')))
 
       won_after : (k : ℕ) → Contains (won_of a) k → Contains (won_of b) k
       won_after k c = x.won k (subst (λ h. Contains (view h).won k) (sym claimer) c)
@@ -201,16 +188,16 @@ module _ (p : PauseView) where
             (λ k. inl (word_more p (view a.claimer) (view b.claimer) a.carried b.carried known carried_on g i k))
             (λ w. ⊎_elim
             (λ d. inr (inl (x.dirty _ (subst (λ d. Has d (page_of (word_address g i))) (sym dirty) d))))
-            (λ q. ⊎_elim (λ l. inr (inr l)) (λ (e : base ≡ g.base). inl (read_here g o e i lt)) (stays_there g.base q)) w)
+            (λ q. ⊎_elim (λ l. inr (inr l)) (λ (e : f ≡ g). inl (read_here g e i lt)) (stays_there g q)) w)
             (s.won g o n (won_before (granule g.base) h) i lt))
             (λ h. inr (h n i lt)) (x.fresh g o c);
         dirtied = λ q h. ⊎_elim (λ o. page_more p a b won_after q (s.dirtied q (subst (λ d. Has d q) dirty o))) (λ w. w) (x.dirtied q h);
         strays = λ q h. ⊎_elim
             (λ o. s.strays q (subst (λ c. Has c q) carried o))
-            (λ w. stray_on f (is_object (length p.map) (found p) p.memory p.roots (IsMarked p.marker) map reached) normal reached q w)
+            (λ w. stray_on f here.is here.normal here.reached q w)
             (r.strays q h);
-        queued = queued_more map (IsWordOf p f) (reached_word f reached normal) m b r.only before;
-        within = within_more map (IsWordOf p f) (reached_word f reached normal) m b r.only (λ k c. s.within k (won_before k c));
+        queued = queued_more map (IsWordOf p f) (reached_word f here.reached here.normal) m b r.only before;
+        within = within_more map (IsWordOf p f) (reached_word f here.reached here.normal) m b r.only (λ k c. s.within k (won_before k c));
         own = x.own own_before;
       }
 
@@ -236,15 +223,15 @@ module _ (p : PauseView) where
       won_too : (k : ℕ) → Contains (won_of a) k → Contains (won_of b) k
       won_too k c = subst (λ h. Contains (view h).won k) (sym cl) c
 
-      back : (k : ℕ) → Contains b.waiting k → Contains m.waiting k
-      back k c = subst (λ l. Contains l k) rest c
+      back : (g : Found) → Contains b.waiting g → Contains m.waiting g
+      back g c = subst (λ l. Contains l g) rest c
 
-      awaits : (g : Found) → found p g.base ≡ Some g → g.kind ≡ Normal → (i : ℕ) → i < g.len → IsAwaitedBy a g i → IsAwaitedBy b g i
-      awaits g o n i lt w = ⊎_elim
+      awaits : (g : Found) → g.kind ≡ Normal → (i : ℕ) → i < g.len → IsAwaitedBy a g i → IsAwaitedBy b g i
+      awaits g n i lt w = ⊎_elim
           (λ d. inl (y.dirty _ (subst (λ d. Has d (page_of (word_address g i))) (sym dirty) d)))
           (λ q. ⊎_elim (λ l. inr (y.waiting _ l))
-          (λ (e : base ≡ g.base). subst (λ (z : Found). z.kind ≡ Normal → (j : ℕ) → j < z.len → IsAwaitedBy b z j) (at_this g o e) y.awaited n i lt)
-          (still_there g.base q))
+          (λ (e : f ≡ g). subst (λ (z : Found). z.kind ≡ Normal → (j : ℕ) → j < z.len → IsAwaitedBy b z j) e y.awaited n i lt)
+          (taken.stay g q))
           w
 
       word_still : (g : Found) (i : ℕ) → IsWordRead p (view a.claimer) a.carried g i → IsWordRead p (view b.claimer) b.carried g i
@@ -254,15 +241,15 @@ module _ (p : PauseView) where
       serving_left = record {
         fits = record { ready = s.fits.ready; of = subst (IsOf p.table) (sym cl) s.fits.of; dirty = y.dirty_len ∙ (ap length dirty ∙ s.fits.dirty); carried = ap length ca ∙ s.fits.carried };
         part = part_on a b (y.place ∙ place) (ap (λ c. (view c).right) cl) s.part;
-        won = λ g o n c i lt. ⊎_elim (λ k. inl (word_still g i k)) (λ w. inr (awaits g o n i lt w)) (s.won g o n (won_still _ c) i lt);
+        won = λ g o n c i lt. ⊎_elim (λ k. inl (word_still g i k)) (λ w. inr (awaits g n i lt w)) (s.won g o n (won_still _ c) i lt);
         dirtied = λ q h. ⊎_elim
             (λ d. page_more p a b won_too q (s.dirtied q (subst (λ d. Has d q) dirty d)))
-            (λ c. (f, ap (found p) f_base ∙ is, won_too _ (subst (λ (n : ℕ). Contains (won_of a) (granule n)) (sym f_base) (s.own base base_in)), c))
+            (λ c. (f, here.is, won_too _ (s.own f taken.was), c))
             (y.covered q h);
         strays = λ q h. s.strays q (subst (λ c. Has c q) ca h);
-        queued = λ k c. before k (back k c);
+        queued = λ g c. before g (back g c);
         within = λ k c. s.within k (won_still k c);
-        own = λ k c. won_too _ (s.own k (was_there k (back k c)));
+        own = λ g c. won_too _ (s.own g (taken.only g (back g c)));
       }
 
       pub serves_left : GoesOnServing p a b

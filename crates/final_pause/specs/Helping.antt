@@ -95,11 +95,11 @@ pub record HasStrayOn (p : PauseView) (f : Found) (q : ℕ) : Type 0 where
 
 -- the word i of the object will be read: by this helper, or after the join
 abbrev pub IsAwaitedBy : Helper → Found → ℕ → Type 0
-IsAwaitedBy h f i = Has h.dirty (page_of (word_address f i)) ⊎ Contains h.waiting f.base
+IsAwaitedBy h f i = Has h.dirty (page_of (word_address f i)) ⊎ Contains h.waiting f
 
 -- the helper won the objects that wait
 abbrev pub AreWon : Helper → Type 0
-AreWon h = (b : ℕ) → Contains h.waiting b → Contains (won_of h) (granule b)
+AreWon h = (f : Found) → Contains h.waiting f → Contains (won_of h) (granule f.base)
 
 -- the page is one of an object that the helper won
 abbrev pub IsPageOfWon : PauseView → Helper → ℕ → Type 0
@@ -113,9 +113,9 @@ pub record QueuesObject (f : Found) (old new : Helper) : Type 0 where
   pub dirty_len : length new.dirty ≡ length old.dirty
   pub dirty : (q : ℕ) → Has old.dirty q → Has new.dirty q
   pub covered : (q : ℕ) → Has new.dirty q → Has old.dirty q ⊎ Covers f q
-  pub waiting : (b : ℕ) → Contains old.waiting b → Contains new.waiting b
+  pub waiting : (g : Found) → Contains old.waiting g → Contains new.waiting g
   pub awaited : f.kind ≡ Normal → (i : ℕ) → i < f.len → IsAwaitedBy new f i
-  pub entries : (b : ℕ) → Contains new.waiting b → Contains old.waiting b ⊎ ((b ≡ f.base) × (f.kind ≡ Normal))
+  pub entries : (g : Found) → Contains new.waiting g → Contains old.waiting g ⊎ ((g ≡ f) × (f.kind ≡ Normal))
   pub size : length new.waiting ≤ length old.waiting + 1
 
 -- 1 for a granule that isn't known to be marked, and 0 for one that is
@@ -143,7 +143,7 @@ pub record HelperGrows (p : PauseView) (old new : Helper) : Type 0 where
   pub dirtied : (q : ℕ) → Has new.dirty q → Has old.dirty q ⊎ IsPageOfWon p new q
   pub carried_len : length new.carried ≡ length old.carried
   pub carried : (q : ℕ) → Has old.carried q → Has new.carried q
-  pub waiting : (b : ℕ) → Contains old.waiting b → Contains new.waiting b
+  pub waiting : (f : Found) → Contains old.waiting f → Contains new.waiting f
   pub fresh : (f : Found) → found p f.base ≡ Some f → Contains (won_of new) (granule f.base)
       → Contains (won_of old) (granule f.base) ⊎ (f.kind ≡ Normal → (i : ℕ) → i < f.len → IsAwaitedBy new f i)
   pub own : AreWon old → AreWon new
@@ -158,7 +158,7 @@ pub record IsPointedInto (p : PauseView) (P : ℕ → Type 0) (object : Found) :
 -- only objects that one of these words points into were won, and wait
 pub record ClaimsOnly (p : PauseView) (P : ℕ → Type 0) (old new : Helper) : Type 0 where
   pub won : (k : ℕ) → Contains (won_of new) k → Contains (won_of old) k ⊎ ((f : Found) × IsPointedInto p P f × (granule f.base ≡ k))
-  pub entries : (b : ℕ) → Contains new.waiting b → Contains old.waiting b ⊎ ((f : Found) × IsPointedInto p P f × (f.base ≡ b) × (f.kind ≡ Normal))
+  pub entries : (f : Found) → Contains new.waiting f → Contains old.waiting f ⊎ (IsPointedInto p P f × (f.kind ≡ Normal))
 
 -- what the word points into is known to be marked, nothing else was won, and no page has become carried
 pub record Visits (p : PauseView) (w : ℕ) (old new : Helper) : Type 0 where

@@ -30,13 +30,11 @@ pub record IsReachedAt (p : PauseView) (k : ℕ) : Type 0 where
   pub first : granule object.base ≡ k
   pub reached : IsReachable p object
 
--- a reached Normal object has this base
-pub record IsQueuedAt (p : PauseView) (base : ℕ) : Type 0 where
-  pub object : Found
-  pub is : found p object.base ≡ Some object
-  pub base_is : object.base ≡ base
-  pub normal : object.kind ≡ Normal
-  pub reached : IsReachable p object
+-- the object is a reached Normal one
+pub record IsQueued (p : PauseView) (f : Found) : Type 0 where
+  pub is : found p f.base ≡ Some f
+  pub normal : f.kind ≡ Normal
+  pub reached : IsReachable p f
 
 -- A helper at work, between two objects. Each word of a Normal object that it won was read, or the helper will come to it, or
 -- its page is dirty in the helper's row; on each page that it carries stands a stray word of a reached Normal object; and it won what
@@ -48,7 +46,7 @@ pub record IsServing (p : PauseView) (h : Helper) : Type 0 where
       → IsWordRead p (view h.claimer) h.carried f i ⊎ IsAwaitedBy h f i
   pub dirtied : (q : ℕ) → Has h.dirty q → IsPageOfWon p h q
   pub strays : (q : ℕ) → Has h.carried q → IsStrayPage (found p) p.memory p.roots p.marker q
-  pub queued : (b : ℕ) → Contains h.waiting b → IsQueuedAt p b
+  pub queued : (f : Found) → Contains h.waiting f → IsQueued p f
   pub within : (k : ℕ) → Contains (won_of h) k → IsReachedAt p k
   pub own : AreWon h
 

@@ -1,22 +1,23 @@
--- Objects that wait to be read, as lists of their bases, whose order says nothing.
-use Rattle.std.specs.Prelude.{◌≡◌, ℕ, ◌+◌, ◌≤◌, List, length, Contains, ◌⊎◌}
+-- Objects that wait to be read, as lists, whose order says nothing.
+use Rattle.std.specs.Prelude.{◌≡◌, ◌+◌, ◌≤◌, List, length, Contains, ◌⊎◌}
+use Rattle.block_map.specs.declared.found.Found.{Found}
 
--- one base came, and the others stayed
-pub record IsPut (old : List ℕ) (base : ℕ) (new : List ℕ) : Type 0 where
-  pub here : Contains new base
-  pub stay : (b : ℕ) → Contains old b → Contains new b
-  pub only : (b : ℕ) → Contains new b → Contains old b ⊎ (b ≡ base)
+-- one came, and the others stayed
+pub record IsPut (old : List Found) (f : Found) (new : List Found) : Type 0 where
+  pub here : Contains new f
+  pub stay : (g : Found) → Contains old g → Contains new g
+  pub only : (g : Found) → Contains new g → Contains old g ⊎ (g ≡ f)
   pub size : length new ≤ length old + 1
 
--- one base was taken out, and the others stayed
-pub record IsTaken (old : List ℕ) (base : ℕ) (new : List ℕ) : Type 0 where
-  pub was : Contains old base
-  pub only : (b : ℕ) → Contains new b → Contains old b
-  pub stay : (b : ℕ) → Contains old b → Contains new b ⊎ (base ≡ b)
+-- one was taken out, and the others stayed
+pub record IsTaken (old : List Found) (f : Found) (new : List Found) : Type 0 where
+  pub was : Contains old f
+  pub only : (g : Found) → Contains new g → Contains old g
+  pub stay : (g : Found) → Contains old g → Contains new g ⊎ (f ≡ g)
   pub size : length new + 1 ≡ length old
 
--- the same bases, in any order
-pub record IsMoved (old new : List ℕ) : Type 0 where
-  pub only : (b : ℕ) → Contains new b → Contains old b
-  pub stay : (b : ℕ) → Contains old b → Contains new b
+-- the same ones, in any order
+pub record IsMoved (old new : List Found) : Type 0 where
+  pub only : (g : Found) → Contains new g → Contains old g
+  pub stay : (g : Found) → Contains old g → Contains new g
   pub size : length new ≡ length old

@@ -74,7 +74,7 @@ pub(crate) fn queue(helper: &mut Helper, found: Found, may_wait: bool)
     if found.kind == Kind::PointerFree {
         return;
     }
-    if may_wait && helper.waiting.put(found.base) {
+    if may_wait && helper.waiting.put(found) {
         return;
     }
     put_off(helper, found);

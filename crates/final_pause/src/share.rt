@@ -200,8 +200,7 @@ impl<'a> Pause<'a> {
         ensures serves { GoesOnServing (pause_view self.now) helper.old helper.new }
         ensures empty { helper.new.waiting ≡ [] }
     {
-        while let Some(base) = helper.waiting.take(self.memory) {
-            let found = self.map.object_at(base);
+        while let Some(found) = helper.waiting.take(self.memory) {
             let words = u64::from(found.len);
             if words > helper.left / LONG {
                 put_off(helper, found);

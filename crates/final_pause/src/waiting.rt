@@ -1,13 +1,15 @@
 //! The objects that a helper won and still has to read.
 //!
-//! They wait on a stack. The next ones are taken off it some at a time, and of each a word is looked at before the first of
+//! They wait on a stack, as what the map found, so that none is looked up again. The next ones are taken off it some at a time, and of each a word is looked at before the first of
 //! them is read: so the processor fetches all of them at once, where it would wait for one after the other. No claim may stand between
 //! these looks, since an atomic step waits for each of them.
-ghost use Rattle.std.specs.Prelude.{◌≡◌, ℕ, [], true, false, Contains, MatchOption};
+ghost use Rattle.std.specs.Prelude.{◌≡◌, [], true, false, Contains, MatchOption};
 ghost use Rattle.pages.specs.Memory.{IsWordAddress};
+ghost use Rattle.block_map.specs.declared.found.Found.{Found};
 ghost use Rattle.final_pause.specs.Waiting.{IsPut, IsTaken, IsMoved};
 
 use arrayvec::ArrayVec;
+use block_map::Found;
 use pages::Memory;
 use std::marker::Model;
 use words::limits::MARK_STACK_ENTRIES;
@@ -18,18 +20,19 @@ const ENTRIES: usize = MARK_STACK_ENTRIES as usize;
 // So many are looked at together.
 const AHEAD: usize = 16;
 
-/// The bases of objects that wait to be read. Contracts see them as one list, whose order says nothing.
+/// Objects that wait to be read. Contracts see them as one list, whose order says nothing.
 #[derive(Drop)]
 pub(crate) struct Waiting {
-    stack: ArrayVec<u64, ENTRIES>,
-    ahead: ArrayVec<u64, AHEAD>,
+    stack: ArrayVec<Found, ENTRIES>,
+    ahead: ArrayVec<Found, AHEAD>,
     seen: u64,
 }
 
 impl Model for Waiting {
-    ghost use Rattle.std.specs.Prelude.{ℕ, List, ◌++◌};
+    ghost use Rattle.std.specs.Prelude.{List, ◌++◌};
+    ghost use Rattle.block_map.specs.declared.found.Found.{Found};
 
-    ghost Value = { List ℕ };
+    ghost Value = { List Found };
 
     ghost view = { λ w. w.ahead.items ++ w.stack.items };
 }
@@ -52,14 +55,14 @@ impl Waiting {
     }
 
     /// Lets another one wait, and answers whether it has room.
-    pub(crate) fn put(&mut self, base: u64) -> bool
+    pub(crate) fn put(&mut self, found: Found) -> bool
         ensures full { result ≡ false → self.new ≡ self.old }
-        ensures put { result ≡ true → IsPut self.old base self.new }
+        ensures put { result ≡ true → IsPut self.old found self.new }
     {
         if self.stack.is_full() {
             return false;
         }
-        self.stack.push(base);
+        self.stack.push(found);
         true
     }
 
@@ -67,21 +70,21 @@ impl Waiting {
     // leaves the look out.
     #[inline]
     fn look_at_one(&mut self, memory: &Memory)
-        requires { (b : ℕ) → Contains self.old b → IsWordAddress memory.now b }
+        requires { (f : Found) → Contains self.old f → IsWordAddress memory.now f.base }
         ensures { IsMoved self.old self.new }
     {
         if self.ahead.is_full() {
             return;
         }
-        if let Some(base) = self.stack.pop() {
-            self.seen ^= memory.read(base);
-            self.ahead.push(base);
+        if let Some(found) = self.stack.pop() {
+            self.seen ^= memory.read(found.base);
+            self.ahead.push(found);
         }
     }
 
     // Takes some off the stack, to be read soon, and looks at their first words.
     fn look_ahead(&mut self, memory: &Memory)
-        requires { (b : ℕ) → Contains self.old b → IsWordAddress memory.now b }
+        requires { (f : Found) → Contains self.old f → IsWordAddress memory.now f.base }
         ensures { IsMoved self.old self.new }
     {
         let count = self.stack.len().min(AHEAD);
@@ -91,15 +94,15 @@ impl Waiting {
     }
 
     /// Takes the next one, and `None` where none waits.
-    pub(crate) fn take(&mut self, memory: &Memory) -> Option<u64>
-        requires { (b : ℕ) → Contains self.old b → IsWordAddress memory.now b }
-        ensures { MatchOption result ((self.old ≡ []) × (self.new ≡ [])) (λ b. IsTaken self.old b self.new) }
+    pub(crate) fn take(&mut self, memory: &Memory) -> Option<Found>
+        requires { (f : Found) → Contains self.old f → IsWordAddress memory.now f.base }
+        ensures { MatchOption result ((self.old ≡ []) × (self.new ≡ [])) (λ f. IsTaken self.old f self.new) }
     {
-        if let Some(base) = self.ahead.pop() {
-            return Some(base);
+        if let Some(found) = self.ahead.pop() {
+            return Some(found);
         }
-        let base = self.stack.pop()?;
+        let found = self.stack.pop()?;
         self.look_ahead(memory);
-        Some(base)
+        Some(found)
     }
 }

@@ -6,7 +6,7 @@ use Rattle.final_pause.proofs.helper.queue.Goals as goal
 pub returns-then-put : goal.returns-then-put
 returns-then-put c =
     let normal : c.args.found.kind ≡ Normal = search rules in
-    let put : IsPut c.args.helper.now.waiting c.args.found.base c.put.new.self = search rules in
+    let put : IsPut c.args.helper.now.waiting c.args.found c.put.new.self = search rules in
     record {
       claimer = refl;
       place = refl;
