@@ -8,7 +8,7 @@ mod plain_row;
 
 use plain_class::Class;
 use plain_figures::report;
-use plain_map::{Block, Found, Kind, Page, START, find, object_at};
+use plain_map::{Block, Found, Kind, Page, START, find};
 use plain_marker::{Entry, Marker, granule};
 use plain_row::set;
 use std::hint::black_box;
@@ -26,8 +26,7 @@ const DIRTY_PAGES: usize = 16;
 const ENTRIES_EACH: usize = 4;
 
 struct Helper {
-    stack: [u64; ENTRIES],
-    len: usize,
+    stack: Vec<Found>,
     dirty: Vec<u64>,
     carried: Vec<u64>,
 }
@@ -45,9 +44,8 @@ impl Pause<'_> {
         if found.kind == Kind::PointerFree {
             return;
         }
-        if helper.len < ENTRIES {
-            helper.stack[helper.len] = found.base;
-            helper.len += 1;
+        if helper.stack.len() < ENTRIES {
+            helper.stack.push(found);
             return;
         }
         let first = (found.base - START) / 4_096;
@@ -92,9 +90,7 @@ impl Pause<'_> {
     }
 
     fn read_stack(&self, helper: &mut Helper) {
-        while helper.len > 0 {
-            helper.len -= 1;
-            let found = object_at(self.map, helper.stack[helper.len]);
+        while let Some(found) = helper.stack.pop() {
             self.read_words(helper, found, 0);
         }
     }
@@ -110,7 +106,7 @@ impl Pause<'_> {
     }
 
     fn help(&self, place: usize, entries: &[Entry]) -> Helper {
-        let mut helper = Helper { stack: [0; ENTRIES], len: 0, dirty: vec![0; PAGES / 64], carried: vec![0; PAGES / 64] };
+        let mut helper = Helper { stack: Vec::with_capacity(ENTRIES), dirty: vec![0; PAGES / 64], carried: vec![0; PAGES / 64] };
         for word in self.roots.iter().skip(place).step_by(self.helpers) {
             self.visit(&mut helper, *word);
         }
