@@ -6,24 +6,15 @@ set -uo pipefail
 top=$(dirname "$(dirname "$(readlink -f "${BASH_SOURCE[0]}")")")
 # shellcheck source=tests/builds.sh
 . "$top/tests/builds.sh"
+kind=c
+# shellcheck source=tests/counts.sh
+. "$top/tests/counts.sh"
 crate=$top/crates/mpheap_c
 room=$(mktemp -d)
 trap 'rm -rf "$room"' EXIT
 trap 'exit 143' INT TERM HUP
-passed=0
-failed=0
 warnings=(-Wall -Wextra -Werror -pedantic -I"$top/include")
 sanitizers=(-g -O1 "-fsanitize=address,undefined" -fno-sanitize-recover=all)
-
-# is WHAT WANTED SEEN
-is() {
-    if [ "$2" = "$3" ]; then
-        passed=$((passed + 1))
-    else
-        failed=$((failed + 1))
-        printf 'c: %s\n  wanted: %s\n  seen:   %s\n' "$1" "$2" "$3"
-    fi
-}
 
 # works WHAT COMMAND..: the command ends with 0.
 works() {
@@ -268,5 +259,4 @@ memory_is_refused
 gcbench_is_right
 rust_is_safe
 installed_far_away
-echo "c: $passed passed, $failed failed"
-[ "$failed" = 0 ]
+tell_counts

@@ -4,21 +4,11 @@
 top=$(dirname "$(dirname "$(readlink -f "${BASH_SOURCE[0]}")")")
 # shellcheck source=tests/builds.sh
 . "$top/tests/builds.sh"
+# shellcheck source=tests/counts.sh
+. "$top/tests/counts.sh"
 room=$(mktemp -d)
 trap 'rm -rf "$room"' EXIT
 trap 'exit 143' INT TERM HUP
-passed=0
-failed=0
-
-# is WHAT WANTED SEEN
-is() {
-    if [ "$2" = "$3" ]; then
-        passed=$((passed + 1))
-    else
-        failed=$((failed + 1))
-        printf '%s: %s\n  wanted: %s\n  seen:   %s\n' "$kind" "$1" "$2" "$3"
-    fi
-}
 
 # open_cases COMMAND: the cases of a command, or of `mpheap`, of which each case has its own.
 open_cases() {
@@ -69,8 +59,3 @@ named_places() {
     sed -f "$room/places"
 }
 
-# close_cases: how many passed and failed. Its status is 0 if none failed.
-close_cases() {
-    echo "$kind: $passed passed, $failed failed"
-    [ "$failed" = 0 ]
-}

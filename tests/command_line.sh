@@ -234,4 +234,4 @@ if is_built; then
     other_words_are_no_command
     random_scripts_are_written
 fi
-close_cases
+tell_counts

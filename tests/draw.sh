@@ -11,8 +11,9 @@ top=$(dirname "$(dirname "$(readlink -f "${BASH_SOURCE[0]}")")")
 room=$(mktemp -d)
 trap 'rm -rf "$room"' EXIT
 trap 'exit 143' INT TERM HUP
-passed=0
-failed=0
+kind=draw
+# shellcheck source=tests/counts.sh
+. "$top/tests/counts.sh"
 
 # agrees WHAT COMMAND..: the command ends with 0, and otherwise what it said last is shown.
 agrees() {
@@ -115,5 +116,4 @@ printf 'attach\n0 get 16\n' >"$room/bad"
 printf 'attach => mutator 0\nnonsense\n' >"$room/bad_run"
 agrees "which line of a script is bad" says 2 "bad line 2" "$build" draw --pages 4 "$room/bad"
 agrees "which line of a run is none" says 2 "line 2: not a line of a run" "$build" draw --pages 4 --run "$room/bad_run"
-echo "draw: $passed passed, $failed failed"
-[ "$failed" = 0 ] && [ "$passed" -gt 2 ]
+tell_counts && [ "$passed" -gt 2 ]

@@ -3,8 +3,9 @@
 # with: each of them costs a start in every check of the crate, and in that of every edit. It takes a few seconds.
 set -euo pipefail
 cd "$(dirname "${BASH_SOURCE[0]}")/.."
-passed=0
-failed=0
+kind=entries
+# shellcheck source=tests/counts.sh
+. tests/counts.sh
 
 # The first names of all paths in the crate outside comments, each once: `NAME::..` of code, `Rattle.NAME..` of definitions.
 cited() {
@@ -25,5 +26,4 @@ while IFS=: read -r name libraries; do
         fi
     done
 done < <(sed 's,#.*,,' crates.txt)
-echo "entries: $passed passed, $failed failed"
-[ "$failed" = 0 ]
+tell_counts

@@ -17,20 +17,11 @@ running=() judges=() awaited=() statuses=() queue=()
 trap close EXIT
 trap 'exit 143' INT TERM HUP
 include=${MPHEAP_INCLUDE:-$top/include}
-passed=0
-failed=0
+kind=gc
+# shellcheck source=tests/counts.sh
+. "$top/tests/counts.sh"
 warnings=(-Wall -Wextra -Werror -pedantic)
 c=(cc -std=c11 -O2 "${warnings[@]}" "-I$top/include/mpgc")
-
-# is WHAT WANTED SEEN
-is() {
-    if [ "$2" = "$3" ]; then
-        passed=$((passed + 1))
-    else
-        failed=$((failed + 1))
-        printf 'gc: %s\n  wanted: %s\n  seen:   %s\n' "$1" "$2" "$3"
-    fi
-}
 
 close() {
     local k

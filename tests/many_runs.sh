@@ -110,4 +110,4 @@ write_runs
 many_files_have_a_line_each
 the_same_is_told_as_data
 runs_are_followed
-close_cases
+tell_counts

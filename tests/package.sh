@@ -8,18 +8,9 @@ top=$(dirname "$(dirname "$(readlink -f "${BASH_SOURCE[0]}")")")
 room=$(mktemp -d)
 trap 'rm -rf "$room"' EXIT
 trap 'exit 143' INT TERM HUP
-passed=0
-failed=0
-
-# is WHAT WANTED SEEN
-is() {
-    if [ "$2" = "$3" ]; then
-        passed=$((passed + 1))
-    else
-        failed=$((failed + 1))
-        printf 'package: %s\n  wanted: %s\n  seen:   %s\n' "$1" "$2" "$3"
-    fi
-}
+kind=package
+# shellcheck source=tests/counts.sh
+. "$top/tests/counts.sh"
 
 # works WHAT COMMAND..: the command ends with 0.
 works() {
@@ -29,8 +20,7 @@ works() {
 }
 
 close() {
-    echo "package: $passed passed, $failed failed"
-    [ "$failed" = 0 ]
+    tell_counts
     exit
 }
 

@@ -264,4 +264,4 @@ open_cases record
 runs_are_written
 faults_are_told
 run_cases 8
-close_cases
+tell_counts

@@ -197,4 +197,4 @@ one_mutator_is_answered_as_a_script
 lines_are_answered
 links_and_loads_are_right
 runs_are_legal
-close_cases
+tell_counts

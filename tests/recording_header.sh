@@ -141,4 +141,4 @@ faults_end_runs
 threads_write_one_history
 collectors_are_judged
 run_cases 16
-close_cases
+tell_counts

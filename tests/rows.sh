@@ -125,4 +125,4 @@ written_runs
 run_texts
 recorded_runs
 run_cases 331
-close_cases
+tell_counts

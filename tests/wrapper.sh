@@ -9,8 +9,9 @@ room=$(mktemp -d)
 trap 'kill "${lanes[@]}" 2>/dev/null; wait; rm -rf "$room"' EXIT
 trap 'exit 143' INT TERM HUP
 lanes=()
-passed=0
-failed=0
+kind=wrapper
+# shellcheck source=tests/counts.sh
+. "$top/tests/counts.sh"
 export ROOM=$room
 export TMPDIR=$room/temporary
 tree=$room/tree
@@ -20,16 +21,6 @@ for part in words unproved once building packing real; do
     # shellcheck source=/dev/null
     . "$top/tests/wrapper/$part.sh"
 done
-
-# is WHAT WANTED SEEN
-is() {
-    if [ "$2" = "$3" ]; then
-        passed=$((passed + 1))
-    else
-        failed=$((failed + 1))
-        printf 'wrapper: %s\n  wanted: %s\n  seen:   %s\n' "$1" "$2" "$3"
-    fi
-}
 
 # has WHAT WORDS TEXT
 has() {
@@ -171,5 +162,4 @@ long_work_shows_progress
 found_from_everywhere
 is "no folder is left behind" "" "$(ls -A "$TMPDIR")"
 real_runs
-echo "wrapper: $passed passed, $failed failed"
-[ "$failed" = 0 ]
+tell_counts

@@ -8,18 +8,8 @@ crates=${MPHEAP_CRATES:-$top/crates}
 room=$(mktemp -d)
 trap 'rm -rf "$room"' EXIT
 trap 'exit 143' INT TERM HUP
-passed=0
-failed=0
-
-# is WHAT WANTED SEEN
-is() {
-    if [ "$2" = "$3" ]; then
-        passed=$((passed + 1))
-    else
-        failed=$((failed + 1))
-        printf '%s: %s\n  wanted: %s\n  seen:   %s\n' "$kind" "$1" "$2" "$3"
-    fi
-}
+# shellcheck source=tests/counts.sh
+. "$top/tests/counts.sh"
 
 close() {
     echo "$kind: $passed passed, $failed failed"
