@@ -1,16 +1,19 @@
 /* Stacks of the program's own, between which its threads move, each in turn: on each lies the only pointer to a list. Those on which no
  * thread is are pushed by the function of other roots. Over bdwgc (OTHER) too.
  *
- *     ALONE=1 stacks    the first thread says where it is by GC_stackbottom, a moment before it moves; TOLD=1 by GC_set_stackbottom
+ *     ALONE=1 stacks    the first thread says where it is by GC_stackbottom, a moment before it moves; TOLD=1 by GC_set_stackbottom.
+ *                       In that moment the collector's own thread is waited for
  *     stacks            several threads: one that moves holds off the start of a collection, which holds off those that would move, until
  *                       that function has said on which stack each is */
 #define _GNU_SOURCE
 #define GC_THREADS
+#include <dirent.h>
 #include <pthread.h>
 #include <sched.h>
 #include <stdatomic.h>
 #include <stdint.h>
 #include <sys/mman.h>
+#include <time.h>
 #include <ucontext.h>
 #include "gc.h"
 #include <gc/gc_mark.h>
@@ -62,20 +65,60 @@ static void push_all(void)
     if (others) others();
 }
 
-/* And does something else before it moves. */
+static int has_collector;    /* a thread of its own */
+static _Atomic int goes_on;  /* a cycle */
+
+static void on_event(GC_EventType event)
+{
+    if (event == GC_EVENT_START || event == GC_EVENT_END) goes_on = event == GC_EVENT_START;
+}
+
+/* Whether the collector's thread, the only other one, waits for a processor or has one. */
+static int collector_is_awake(void)
+{
+    DIR *threads = opendir("/proc/self/task");
+    int is_awake = 0;
+    for (const struct dirent *one; threads && (one = readdir(threads));) {
+        char path[300], text[100] = "", state = 'S';
+        if (*one->d_name == '.' || strtol(one->d_name, NULL, 10) == getpid()) continue;
+        snprintf(path, sizeof path, "/proc/self/task/%s/stat", one->d_name);
+        FILE *file = fopen(path, "r");
+        if (file && fgets(text, sizeof text, file)) sscanf(text, "%*d (%*[^)]) %c", &state);
+        if (file) fclose(file);
+        if (state == 'R') is_awake = 1;
+    }
+    if (threads) closedir(threads);
+    return is_awake;
+}
+
+/* In a cycle that thread is awake, whoever began it, and stops this one here, once it is let run, however long that takes on a busy machine.
+ * It then leaves all to the requests and sleeps, also where it stopped this one elsewhere: so this isn't looked for in every cycle. */
+static void let_it_come(void)
+{
+    enum { ASLEEP = 3, CYCLES = 100 };
+    static const struct timespec moment = { 0, 2000000 };
+    static int cycles;
+    if (!has_collector || !goes_on || cycles == CYCLES) return;
+    for (int looks = 0; goes_on && looks < ASLEEP; looks = collector_is_awake() ? 0 : looks + 1) nanosleep(&moment, NULL);
+    goes_on = 0;
+    cycles++;
+}
+
+/* Before it moves. */
 static void say(char *bottom)
 {
-    GC_set_stackbottom(NULL, &(struct GC_stack_base){ .mem_base = bottom });
-    for (volatile int k = 0; k < 3000; k++) continue;
+    if (is_told)
+        GC_set_stackbottom(NULL, &(struct GC_stack_base){ .mem_base = bottom });
+    else
+        GC_stackbottom = bottom;
+    let_it_come();
 }
 
 static void move(struct mover *mover, int there)
 {
     struct stack *from = &mover->stacks[mover->here], *to = &mover->stacks[there];
-    if (is_told)
+    if (is_alone)
         say(to->bottom);
-    else if (is_alone)
-        GC_stackbottom = to->bottom;
     else
         hold();
     mover->here = there;
@@ -161,12 +204,14 @@ int main(void)
     pid_t watcher = watch(60);
     is_told = getenv("TOLD") != NULL;
     is_alone = is_told || getenv("ALONE") != NULL;
+    has_collector = getenv("GC_COLLECTOR_THREAD") != NULL;
     GC_set_free_space_divisor(40);
     GC_INIT();
     if (getenv("INCREMENTAL")) GC_enable_incremental();
     others = GC_get_push_other_roots();
     GC_set_push_other_roots(push_all);
     GC_set_start_callback(is_alone ? NULL : hold_all);
+    GC_set_on_collection_event(on_event);
     for (int k = 1; !is_alone && k < THREADS; k++) CHECK(GC_pthread_create(&threads[k], NULL, work, &movers[k]) == 0);
     work(&movers[0]);
     for (int k = 1; !is_alone && k < THREADS; k++) GC_pthread_join(threads[k], NULL);
