@@ -20,23 +20,6 @@ pub struct Found {
     pub cell: u16,
 }
 
-/// None in particular, for rows that are to hold some.
-impl Default for Found {
-    ghost use Rattle.std.specs.Prelude.{◌≡◌};
-
-    ghost is_default = { λ f. f.base ≡ 0 };
-
-    fn default() -> Found {
-        Found {
-            base: 0,
-            len: 0,
-            kind: Kind::PointerFree,
-            page: 0,
-            cell: 0,
-        }
-    }
-}
-
 /// An object that a cell was taken for.
 #[derive(Clone, Copy)]
 pub struct Taken {

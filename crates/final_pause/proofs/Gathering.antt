@@ -70,7 +70,7 @@ module _ (p : PauseView) where
         won = λ f o m c i lt. ⊎_elim
             (λ a. ⊎_elim (λ k. inl (word_more p (view first) (view first') carried carried' left old_carried f i k)) (λ d. inr (old _ d)) (g.won f o m a i lt))
             (λ a. ⊎_elim (λ k. inl (word_more p (view h.claimer) (view first') h.carried carried' right more_carried f i k))
-            (λ w. ⊎_elim (λ d. inr (more _ d)) (λ e. absurd (none_in h.waiting f s.empty e)) w) (s.serving.won f o m a i lt))
+            (λ w. ⊎_elim (λ d. inr (more _ d)) (λ e. absurd (none_in h.waiting _ s.empty e)) w) (s.serving.won f o m a i lt))
             (of_either (granule f.base) c);
         dirtied = λ q d. ⊎_elim
             (λ a. let w = g.dirtied q a in (w.0, w.1, won_left _ w.2, w.3))

@@ -1,6 +1,5 @@
 -- How what a helper knows, won and awaits grows.
 use Rattle.std.proofs.Common.{◌≡◌, ℕ, ◌*◌, ◌<◌, Bool, List, [], ◌∷◌, ◌++◌, true, false, Contains, Option, Some, length, refl, sym, ap, subst, ◌∙◌, inl, inr, ⊎_elim, arith}
-use Rattle.std.specs.Prelude.{◌⊎◌}
 use Rattle.std.proofs.lemmas.Option.{same_Some}
 use Rattle.std.proofs.lemmas.List.Elements.{Contains-append_cases, Contains-append_left, Contains-append_right}
 use Rattle.words.specs.declared.class.Kind.TheVariants.{Normal}
@@ -17,8 +16,9 @@ use Rattle.marker.specs.Growth.{TellsStray}
 use Rattle.marker.proofs.Closures.{at_base, same_object}
 use Rattle.marker.proofs.MarkWord.{markable, tells_none}
 use Rattle.final_pause.specs.declared.helper.Helper.{Helper}
+use Rattle.final_pause.specs.declared.waiting.Unread.{Unread}
 use Rattle.final_pause.specs.Pauses.{PauseView}
-use Rattle.final_pause.specs.Helping.{found, won_of, QueuesObject, HelperGrows, IsReadyPause, IsTargetKnown, IsWordRead, IsAwaitedBy, IsPageOfWon, IsPointedInto, ClaimsOnly, Visits, VisitsAll}
+use Rattle.final_pause.specs.Helping.{found, won_of, unread_of, QueuesObject, HelperGrows, IsReadyPause, IsTargetKnown, IsWordRead, IsAwaitedBy, IsPageOfWon, IsPointedInto, ClaimsOnly, Visits, VisitsAll}
 use Rattle.final_pause.proofs.Knowing.{unknown_le, unknown_lt, contains_one, contains_cons, contains_more, contains_here}
 
 -- a word that points into an object is not stray
@@ -87,7 +87,7 @@ module _ (p : PauseView) where
   pub only_more : (P Q : ℕ → Type 0) (a b : Helper) → ((w : ℕ) → P w → Q w) → ClaimsOnly p P a b → ClaimsOnly p Q a b
   only_more P Q a b more x = record {
     won = λ k h. ⊎_elim (λ m. inl m) (λ (r : (f : Found) × IsPointedInto p P f × (granule f.base ≡ k)). inr (r.0, into_more P Q r.0 more r.1, r.2)) (x.won k h);
-    entries = λ e h. ⊎_elim (λ m. inl m) (λ (r : IsPointedInto p P e × (e.kind ≡ Normal)). inr (into_more P Q e more r.0, r.1)) (x.entries e h);
+    entries = λ e h. ⊎_elim (λ m. inl m) (λ (r : (f : Found) × IsPointedInto p P f × (unread_of f ≡ e) × (f.kind ≡ Normal)). inr (r.0, into_more P Q r.0 more r.1, r.2, r.3)) (x.entries e h);
   }
 
   target_is : (w : ℕ) (g : Found) (v : ClaimerView) → found p w ≡ Some g → knows v (granule g.base) ≡ true → IsTargetKnown p v w
@@ -171,7 +171,7 @@ module _ (p : PauseView) where
               (contains_cons (granule g.base) (granule f.base) (won_of old) (subst (λ l. Contains l (granule f.base)) same c));
           own = λ o k c. ⊎_elim
               (λ h. subst (λ l. Contains l (granule k.base)) (sym same) (contains_more (granule g.base) (granule k.base) (won_of old) (o k (subst (λ s. Contains s k) st h))))
-              (λ (h : (k ≡ g) × (g.kind ≡ Normal)). subst (λ (f : Found). Contains (won_of new) (granule f.base)) (sym h.0) won')
+              (λ (h : (k ≡ unread_of g) × (g.kind ≡ Normal)). subst (λ (o : Unread). Contains (won_of new) (granule o.base)) (sym h.0) won')
               (keep.entries k c);
           left = omega (arith, u, s, z);
         };
@@ -184,7 +184,7 @@ module _ (p : PauseView) where
               (contains_cons (granule g.base) k (won_of old) (subst (λ l. Contains l k) same c));
           entries = λ k c. ⊎_elim
               (λ h. inl (subst (λ s. Contains s k) st h))
-              (λ (h : (k ≡ g) × (g.kind ≡ Normal)). subst (λ (f : Found). Contains old.waiting f ⊎ (IsPointedInto p (λ v. v ≡ w) f × (f.kind ≡ Normal))) (sym h.0) (inr (record { word = w; one = refl; points = e }, h.1)))
+              (λ (h : (k ≡ unread_of g) × (g.kind ≡ Normal)). inr (g, record { word = w; one = refl; points = e }, sym h.0, h.1))
               (keep.entries k c);
         };
       }

@@ -9,13 +9,14 @@ use Rattle.words.specs.Layout.{granule, page_of}
 use Rattle.mark_bits.specs.Tables.{view, start_of, IsOf}
 use Rattle.mark_bits.specs.Claims.{knows}
 use Rattle.block_map.specs.declared.found.Found.{Found}
-use Rattle.block_map.specs.Objects.{IsPlaced}
+use Rattle.block_map.specs.Objects.{IsMap, IsPlaced}
 use Rattle.marker.specs.Marking.{bytes_of, word_address}
 use Rattle.marker.specs.Growth.{CarriesPage, IsNoStray, IsStray, words_from}
+use Rattle.marker.proofs.Closures.{at_base}
 use Rattle.marker.proofs.Words.{contains_word, run_words, word_of}
 use Rattle.final_pause.specs.declared.helper.Helper.{Helper}
 use Rattle.final_pause.specs.Pauses.{PauseView}
-use Rattle.final_pause.specs.Helping.{found, word_in, HelperGrows, IsTargetKnown, IsWordRead, unknown, ClaimsOnly, VisitsAll, IsWordOf, ReadsWords, HasStrayOn}
+use Rattle.final_pause.specs.Helping.{found, word_in, HelperGrows, IsObjectOf, IsRowOf, IsTargetKnown, IsWordRead, unknown, ClaimsOnly, VisitsAll, IsWordOf, ReadsWords, HasStrayOn}
 use Rattle.final_pause.proofs.Growing.{word_more, extends_refl, extends_trans, only_trans, only_more}
 
 -- a word that is stray neither points into an object nor lies outside of the heap
@@ -39,6 +40,16 @@ pub record ReadsSome (p : PauseView) (P : ℕ → Type 0) (f : Found) (first n :
   pub read : (i : ℕ) → first ≤ i → i < first + n → P i → IsWordRead p (view new.claimer) new.carried f i
   pub strays : (q : ℕ) → Has new.carried q → Has old.carried q ⊎ HasStrayOn p f q
   pub only : ClaimsOnly p (IsWordOf p f) old new
+
+-- words of an object that stand on one page are a row from the address of the first one on
+pub row_of : (p : PauseView) (f : Found) (first count start : ℕ) → IsMap (length p.map) (found p) → IsObjectOf p f → first + count ≤ f.len
+    → ((i : ℕ) → first ≤ i → i < first + count → page_of (word_address f i) ≡ page_of (word_address f first)) → start ≡ word_address f first → IsRowOf p f first start count
+row_of p f first count start map object inside one_page at = record {
+  is = at_base (length p.map) (found p) map object.word f object.points;
+  at = at;
+  inside = inside;
+  one_page = λ i from below. one_page i from below ∙ ap page_of (sym at);
+}
 
 module _ (p : PauseView) where
   -- a page has become carried, and nothing else has changed

@@ -21,10 +21,11 @@ use Rattle.marker.specs.declared.entry.Entry.{Entry}
 use Rattle.marker.proofs.Closures.{at_base, is_object}
 use Rattle.marker.proofs.Rescanning.{next_is, reads_own}
 use Rattle.final_pause.specs.declared.helper.Helper.{Helper}
+use Rattle.final_pause.specs.declared.waiting.Unread.{Unread}
 use Rattle.final_pause.specs.Pauses.{PauseView}
 use Rattle.final_pause.specs.Dealing.{rank}
 use Rattle.final_pause.specs.Waiting.{IsTaken}
-use Rattle.final_pause.specs.Helping.{found, won_of, IsHelperOf, HelperGrows, IsWordRead, IsAwaitedBy, QueuesObject, AreWon, HasStrayOn, IsPointedInto, ClaimsOnly, IsWordOf, Visits, ReadsWords, ReadsOwn}
+use Rattle.final_pause.specs.Helping.{found, won_of, unread_of, IsHelperOf, HelperGrows, IsWordRead, IsAwaitedBy, QueuesObject, AreWon, HasStrayOn, IsPointedInto, ClaimsOnly, IsWordOf, Visits, ReadsWords, ReadsOwn}
 use Rattle.final_pause.specs.Serving.{IsReachable, IsReachedAt, IsQueued, IsServing, GoesOnServing, IsRunRead, IsEntryRead, AreRootsRead, AreEntriesRead, IsTurn, AreWordsRead, ArePagesRead, IsShareRead}
 use Rattle.final_pause.proofs.Growing.{target_more, word_more, awaited_more, page_more}
 
@@ -56,12 +57,12 @@ module _ (p : PauseView) where
   stray_on f is normal reached q s = record { object = f; is = is; normal = normal; reached = reached; index = s.index; inside = s.inside; on = s.on; stray = s.stray }
 
   module _ (map : IsMap (length p.map) (found p)) (P : ℕ → Type 0) (reach : (w : ℕ) → P w → (g : Found) → found p w ≡ Some g → IsReachable p g) (a b : Helper) (only : ClaimsOnly p P a b) where
-    pub queued_more : ((f : Found) → Contains a.waiting f → IsQueued p f) → (f : Found) → Contains b.waiting f → IsQueued p f
-    queued_more q f c = ⊎_elim (λ h. q f h)
-        (λ (r : IsPointedInto p P f × (f.kind ≡ Normal)).
-        let t = r.0 in
-        record { is = at_base (length p.map) (found p) map t.word f t.points; normal = r.1; reached = reach t.word t.one f t.points })
-        (only.entries f c)
+    pub queued_more : ((o : Unread) → Contains a.waiting o → IsQueued p o) → (o : Unread) → Contains b.waiting o → IsQueued p o
+    queued_more q o c = ⊎_elim (λ h. q o h)
+        (λ (r : (f : Found) × IsPointedInto p P f × (unread_of f ≡ o) × (f.kind ≡ Normal)).
+        let t = r.1 in
+        record { object = r.0; is = at_base (length p.map) (found p) map t.word r.0 t.points; same = r.2; normal = r.3; reached = reach t.word t.one r.0 t.points })
+        (only.entries o c)
 
     pub within_more : ((k : ℕ) → Contains (won_of a) k → IsReachedAt p k) → (k : ℕ) → Contains (won_of b) k → IsReachedAt p k
     within_more q k c = ⊎_elim (λ h. q k h)
@@ -85,9 +86,10 @@ module _ (p : PauseView) where
     }
 
   -- at the base of what waits stands a word
-  pub waiting_words : (h : Helper) → IsServing p h → (f : Found) → Contains h.waiting f → IsWordAddress p.memory f.base
-  waiting_words h s f c =
-      let q = s.queued f c in let placed = s.fits.ready.map.placed f.base f q.is in
+  pub waiting_words : (h : Helper) → IsServing p h → (o : Unread) → Contains h.waiting o → IsWordAddress p.memory o.base
+  waiting_words h s o c =
+      let q = s.queued o c in let placed = s.fits.ready.map.placed q.object.base q.object q.is in
+      let at : q.object.base ≡ o.base = ap (λ (n : Unread). n.base) q.same in
       let aligned = placed.aligned in let above = placed.above in let below = placed.below in let some = placed.some in let size = s.fits.ready.memory in
       record { aligned = omega arith; above = omega arith; below = omega arith }
 
@@ -142,28 +144,29 @@ module _ (p : PauseView) where
   serves_own map f first n a b reached normal r s = serves_reads map f a b reached normal r.extends r.strays r.only s
 
   -- one that waited is taken out
-  module _ (map : IsMap (length p.map) (found p)) (a m : Helper) (f : Found)
-      (claimer : m.claimer ≡ a.claimer) (dirty : m.dirty ≡ a.dirty) (carried : m.carried ≡ a.carried) (place : m.place ≡ a.place) (taken : IsTaken a.waiting f m.waiting)
-      (s : IsServing p a) where
-    here : IsQueued p f
-    here = s.queued f taken.was
+  module _ (map : IsMap (length p.map) (found p)) (a m : Helper) (o : Unread)
+      (claimer : m.claimer ≡ a.claimer) (dirty : m.dirty ≡ a.dirty) (carried : m.carried ≡ a.carried) (place : m.place ≡ a.place) (taken : IsTaken a.waiting o m.waiting)
+      (s : IsServing p a) (here : IsQueued p o) where
+    -- an object that waits so is this one
+    at_this : (g : Found) → found p g.base ≡ Some g → o ≡ unread_of g → here.object ≡ g
+    at_this g is e = same_Some here.object g (sym here.is ∙ (ap (found p) (ap (λ (n : Unread). n.base) (here.same ∙ e)) ∙ is))
 
-    before : (g : Found) → Contains m.waiting g → IsQueued p g
-    before g c = s.queued g (taken.only g c)
+    before : (k : Unread) → Contains m.waiting k → IsQueued p k
+    before k c = s.queued k (taken.only k c)
 
     won_before : (k : ℕ) → Contains (won_of m) k → Contains (won_of a) k
     won_before k c = subst (λ h. Contains (view h).won k) claimer c
 
     own_before : AreWon m
-    own_before g c = subst (λ h. Contains (view h).won (granule g.base)) (sym claimer) (s.own g (taken.only g c))
+    own_before k c = subst (λ h. Contains (view h).won (granule k.base)) (sym claimer) (s.own k (taken.only k c))
 
     -- and its object is read
-    module _ (b : Helper) (r : ReadsWords p f 0 f.len m b) where
+    module _ (b : Helper) (r : ReadsWords p here.object 0 here.object.len m b) where
       x : HelperGrows p m b
       x = r.extends
 
-      stays_there : (g : Found) → Contains a.waiting g → Contains b.waiting g ⊎ (f ≡ g)
-      stays_there g c = ⊎_elim (λ h. inl (x.waiting g h)) (λ e. inr e) (taken.stay g c)
+      stays_there : (k : Unread) → Contains a.waiting k → Contains b.waiting k ⊎ (o ≡ k)
+      stays_there k c = ⊎_elim (λ h. inl (x.waiting k h)) (λ e. inr e) (taken.stay k c)
 
       known : (k : ℕ) → knows (view a.claimer) k ≡ true → knows (view b.claimer) k ≡ true
       known k h = x.learns.known k (ap (λ c. knows (view c) k) claimer ∙ h)
@@ -171,10 +174,11 @@ module _ (p : PauseView) where
       carried_on : (q : ℕ) → Has a.carried q → Has b.carried q
       carried_on q h = x.carried q (subst (λ c. Has c q) (sym carried) h)
 
-      read_here : (g : Found) → f ≡ g → (i : ℕ) → i < g.len → IsWordRead p (view b.claimer) b.carried g i
-      read_here g e i lt =
-          let lt' : i < f.len = subst (λ (y : Found). i < y.len) (sym e) lt in
-          subst (λ (y : Found). IsWordRead p (view b.claimer) b.carried y i) e (r.read i (omega arith) (omega (arith, lt')))
+      read_here : (g : Found) → found p g.base ≡ Some g → o ≡ unread_of g → (i : ℕ) → i < g.len → IsWordRead p (view b.claimer) b.carried g i
+      read_here g is e i lt =
+          let is_f = at_this g is e in
+          let lt' : i < here.object.len = subst (λ (y : Found). i < y.len) (sym is_f) lt in
+          subst (λ (y : Found). IsWordRead p (view b.claimer) b.carried y i) is_f (r.read i (omega arith) (omega (arith, lt')))
 
       won_after : (k : ℕ) → Contains (won_of a) k → Contains (won_of b) k
       won_after k c = x.won k (subst (λ h. Contains (view h).won k) (sym claimer) c)
@@ -183,21 +187,21 @@ module _ (p : PauseView) where
       serving_pop = record {
         fits = record { ready = s.fits.ready; of = x.of; dirty = x.dirty_len ∙ (ap length dirty ∙ s.fits.dirty); carried = x.carried_len ∙ (ap length carried ∙ s.fits.carried) };
         part = part_on a b (x.place ∙ place) (x.learns.right ∙ ap (λ c. (view c).right) claimer) s.part;
-        won = λ g o n c i lt. ⊎_elim
+        won = λ g is n c i lt. ⊎_elim
             (λ h. ⊎_elim
             (λ k. inl (word_more p (view a.claimer) (view b.claimer) a.carried b.carried known carried_on g i k))
             (λ w. ⊎_elim
             (λ d. inr (inl (x.dirty _ (subst (λ d. Has d (page_of (word_address g i))) (sym dirty) d))))
-            (λ q. ⊎_elim (λ l. inr (inr l)) (λ (e : f ≡ g). inl (read_here g e i lt)) (stays_there g q)) w)
-            (s.won g o n (won_before (granule g.base) h) i lt))
-            (λ h. inr (h n i lt)) (x.fresh g o c);
-        dirtied = λ q h. ⊎_elim (λ o. page_more p a b won_after q (s.dirtied q (subst (λ d. Has d q) dirty o))) (λ w. w) (x.dirtied q h);
+            (λ q. ⊎_elim (λ l. inr (inr l)) (λ (e : o ≡ unread_of g). inl (read_here g is e i lt)) (stays_there (unread_of g) q)) w)
+            (s.won g is n (won_before (granule g.base) h) i lt))
+            (λ h. inr (h n i lt)) (x.fresh g is c);
+        dirtied = λ q h. ⊎_elim (λ d. page_more p a b won_after q (s.dirtied q (subst (λ d. Has d q) dirty d))) (λ w. w) (x.dirtied q h);
         strays = λ q h. ⊎_elim
-            (λ o. s.strays q (subst (λ c. Has c q) carried o))
-            (λ w. stray_on f here.is here.normal here.reached q w)
+            (λ d. s.strays q (subst (λ c. Has c q) carried d))
+            (λ w. stray_on here.object here.is here.normal here.reached q w)
             (r.strays q h);
-        queued = queued_more map (IsWordOf p f) (reached_word f here.reached here.normal) m b r.only before;
-        within = within_more map (IsWordOf p f) (reached_word f here.reached here.normal) m b r.only (λ k c. s.within k (won_before k c));
+        queued = queued_more map (IsWordOf p here.object) (reached_word here.object here.reached here.normal) m b r.only before;
+        within = within_more map (IsWordOf p here.object) (reached_word here.object here.reached here.normal) m b r.only (λ k c. s.within k (won_before k c));
         own = x.own own_before;
       }
 
@@ -210,7 +214,7 @@ module _ (p : PauseView) where
       }
 
     -- or its object is left to its pages
-    module _ (b : Helper) (y : QueuesObject f m b) (rest : b.waiting ≡ m.waiting) where
+    module _ (b : Helper) (y : QueuesObject here.object m b) (rest : b.waiting ≡ m.waiting) where
       cl : b.claimer ≡ a.claimer
       cl = y.claimer ∙ claimer
 
@@ -223,15 +227,15 @@ module _ (p : PauseView) where
       won_too : (k : ℕ) → Contains (won_of a) k → Contains (won_of b) k
       won_too k c = subst (λ h. Contains (view h).won k) (sym cl) c
 
-      back : (g : Found) → Contains b.waiting g → Contains m.waiting g
-      back g c = subst (λ l. Contains l g) rest c
+      back : (k : Unread) → Contains b.waiting k → Contains m.waiting k
+      back k c = subst (λ l. Contains l k) rest c
 
-      awaits : (g : Found) → g.kind ≡ Normal → (i : ℕ) → i < g.len → IsAwaitedBy a g i → IsAwaitedBy b g i
-      awaits g n i lt w = ⊎_elim
+      awaits : (g : Found) → found p g.base ≡ Some g → g.kind ≡ Normal → (i : ℕ) → i < g.len → IsAwaitedBy a g i → IsAwaitedBy b g i
+      awaits g is n i lt w = ⊎_elim
           (λ d. inl (y.dirty _ (subst (λ d. Has d (page_of (word_address g i))) (sym dirty) d)))
           (λ q. ⊎_elim (λ l. inr (y.waiting _ l))
-          (λ (e : f ≡ g). subst (λ (z : Found). z.kind ≡ Normal → (j : ℕ) → j < z.len → IsAwaitedBy b z j) e y.awaited n i lt)
-          (taken.stay g q))
+          (λ (e : o ≡ unread_of g). subst (λ (z : Found). z.kind ≡ Normal → (j : ℕ) → j < z.len → IsAwaitedBy b z j) (at_this g is e) y.awaited n i lt)
+          (taken.stay (unread_of g) q))
           w
 
       word_still : (g : Found) (i : ℕ) → IsWordRead p (view a.claimer) a.carried g i → IsWordRead p (view b.claimer) b.carried g i
@@ -241,15 +245,15 @@ module _ (p : PauseView) where
       serving_left = record {
         fits = record { ready = s.fits.ready; of = subst (IsOf p.table) (sym cl) s.fits.of; dirty = y.dirty_len ∙ (ap length dirty ∙ s.fits.dirty); carried = ap length ca ∙ s.fits.carried };
         part = part_on a b (y.place ∙ place) (ap (λ c. (view c).right) cl) s.part;
-        won = λ g o n c i lt. ⊎_elim (λ k. inl (word_still g i k)) (λ w. inr (awaits g n i lt w)) (s.won g o n (won_still _ c) i lt);
+        won = λ g is n c i lt. ⊎_elim (λ k. inl (word_still g i k)) (λ w. inr (awaits g is n i lt w)) (s.won g is n (won_still _ c) i lt);
         dirtied = λ q h. ⊎_elim
             (λ d. page_more p a b won_too q (s.dirtied q (subst (λ d. Has d q) dirty d)))
-            (λ c. (f, here.is, won_too _ (s.own f taken.was), c))
+            (λ c. (here.object, here.is, won_too _ (subst (λ (n : ℕ). Contains (won_of a) (granule n)) (sym (ap (λ (k : Unread). k.base) here.same)) (s.own o taken.was)), c))
             (y.covered q h);
         strays = λ q h. s.strays q (subst (λ c. Has c q) ca h);
-        queued = λ g c. before g (back g c);
+        queued = λ k c. before k (back k c);
         within = λ k c. s.within k (won_still k c);
-        own = λ g c. won_too _ (s.own g (taken.only g (back g c)));
+        own = λ k c. won_too _ (s.own k (taken.only k (back k c)));
       }
 
       pub serves_left : GoesOnServing p a b

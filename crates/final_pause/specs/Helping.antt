@@ -15,6 +15,7 @@ use Rattle.block_map.specs.FoundIn.{found_in}
 use Rattle.marker.specs.Marking.{Covers, bytes_of, word_address}
 use Rattle.marker.specs.Growth.{IsStray}
 use Rattle.final_pause.specs.declared.helper.Helper.{Helper}
+use Rattle.final_pause.specs.declared.waiting.Unread.{Unread}
 use Rattle.final_pause.specs.Pauses.{PauseView}
 
 -- the object that a word points into
@@ -93,13 +94,17 @@ pub record HasStrayOn (p : PauseView) (f : Found) (q : ℕ) : Type 0 where
   pub on : page_of (word_address f index) ≡ q
   pub stray : IsStrayIn p f index
 
+-- the object as it waits
+abbrev pub unread_of : Found → Unread
+unread_of f = record { base = f.base; len = f.len }
+
 -- the word i of the object will be read: by this helper, or after the join
 abbrev pub IsAwaitedBy : Helper → Found → ℕ → Type 0
-IsAwaitedBy h f i = Has h.dirty (page_of (word_address f i)) ⊎ Contains h.waiting f
+IsAwaitedBy h f i = Has h.dirty (page_of (word_address f i)) ⊎ Contains h.waiting (unread_of f)
 
 -- the helper won the objects that wait
 abbrev pub AreWon : Helper → Type 0
-AreWon h = (f : Found) → Contains h.waiting f → Contains (won_of h) (granule f.base)
+AreWon h = (o : Unread) → Contains h.waiting o → Contains (won_of h) (granule o.base)
 
 -- the page is one of an object that the helper won
 abbrev pub IsPageOfWon : PauseView → Helper → ℕ → Type 0
@@ -113,9 +118,9 @@ pub record QueuesObject (f : Found) (old new : Helper) : Type 0 where
   pub dirty_len : length new.dirty ≡ length old.dirty
   pub dirty : (q : ℕ) → Has old.dirty q → Has new.dirty q
   pub covered : (q : ℕ) → Has new.dirty q → Has old.dirty q ⊎ Covers f q
-  pub waiting : (g : Found) → Contains old.waiting g → Contains new.waiting g
+  pub waiting : (o : Unread) → Contains old.waiting o → Contains new.waiting o
   pub awaited : f.kind ≡ Normal → (i : ℕ) → i < f.len → IsAwaitedBy new f i
-  pub entries : (g : Found) → Contains new.waiting g → Contains old.waiting g ⊎ ((g ≡ f) × (f.kind ≡ Normal))
+  pub entries : (o : Unread) → Contains new.waiting o → Contains old.waiting o ⊎ ((o ≡ unread_of f) × (f.kind ≡ Normal))
   pub size : length new.waiting ≤ length old.waiting + 1
 
 -- 1 for a granule that isn't known to be marked, and 0 for one that is
@@ -143,7 +148,7 @@ pub record HelperGrows (p : PauseView) (old new : Helper) : Type 0 where
   pub dirtied : (q : ℕ) → Has new.dirty q → Has old.dirty q ⊎ IsPageOfWon p new q
   pub carried_len : length new.carried ≡ length old.carried
   pub carried : (q : ℕ) → Has old.carried q → Has new.carried q
-  pub waiting : (f : Found) → Contains old.waiting f → Contains new.waiting f
+  pub waiting : (o : Unread) → Contains old.waiting o → Contains new.waiting o
   pub fresh : (f : Found) → found p f.base ≡ Some f → Contains (won_of new) (granule f.base)
       → Contains (won_of old) (granule f.base) ⊎ (f.kind ≡ Normal → (i : ℕ) → i < f.len → IsAwaitedBy new f i)
   pub own : AreWon old → AreWon new
@@ -158,7 +163,7 @@ pub record IsPointedInto (p : PauseView) (P : ℕ → Type 0) (object : Found) :
 -- only objects that one of these words points into were won, and wait
 pub record ClaimsOnly (p : PauseView) (P : ℕ → Type 0) (old new : Helper) : Type 0 where
   pub won : (k : ℕ) → Contains (won_of new) k → Contains (won_of old) k ⊎ ((f : Found) × IsPointedInto p P f × (granule f.base ≡ k))
-  pub entries : (f : Found) → Contains new.waiting f → Contains old.waiting f ⊎ (IsPointedInto p P f × (f.kind ≡ Normal))
+  pub entries : (o : Unread) → Contains new.waiting o → Contains old.waiting o ⊎ ((f : Found) × IsPointedInto p P f × (unread_of f ≡ o) × (f.kind ≡ Normal))
 
 -- what the word points into is known to be marked, nothing else was won, and no page has become carried
 pub record Visits (p : PauseView) (w : ℕ) (old new : Helper) : Type 0 where
@@ -177,6 +182,13 @@ pub record VisitsAll (p : PauseView) (ws : List ℕ) (old new : Helper) : Type 0
 -- the word is one of the object
 abbrev pub IsWordOf : PauseView → Found → ℕ → Type 0
 IsWordOf p f w = (i : ℕ) × (i < f.len) × (w ≡ word_in p f i)
+
+-- so many words from an address on are words of the object, from its word `first` on, and stand on one page
+pub record IsRowOf (p : PauseView) (f : Found) (first start count : ℕ) : Type 0 where
+  pub is : found p f.base ≡ Some f
+  pub at : start ≡ word_address f first
+  pub inside : first + count ≤ f.len
+  pub one_page : (i : ℕ) → first ≤ i → i < first + count → page_of (word_address f i) ≡ page_of start
 
 -- n words of an object were read, from its word `first` on; nothing else was won, and only their pages have become carried
 pub record ReadsWords (p : PauseView) (f : Found) (first n : ℕ) (old new : Helper) : Type 0 where

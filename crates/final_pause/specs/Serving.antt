@@ -15,9 +15,10 @@ use Rattle.marker.specs.Closure.{Closure}
 use Rattle.marker.specs.Growth.{IsStrayPage}
 use Rattle.final_pause.specs.declared.helper.Helper.{Helper}
 use Rattle.final_pause.specs.declared.piece.Piece.{Piece}
+use Rattle.final_pause.specs.declared.waiting.Unread.{Unread}
 use Rattle.final_pause.specs.Pauses.{PauseView}
 use Rattle.final_pause.specs.Dealing.{rank}
-use Rattle.final_pause.specs.Helping.{IsHelperOf, IsTargetKnown, IsWordRead, IsAwaitedBy, IsPageOfWon, AreWon, found, won_of, turn_of}
+use Rattle.final_pause.specs.Helping.{IsHelperOf, IsTargetKnown, IsWordRead, IsAwaitedBy, IsPageOfWon, AreWon, found, won_of, turn_of, unread_of}
 
 -- what the marks before and the roots reach
 abbrev pub IsReachable : PauseView → Found → Type 0
@@ -30,11 +31,13 @@ pub record IsReachedAt (p : PauseView) (k : ℕ) : Type 0 where
   pub first : granule object.base ≡ k
   pub reached : IsReachable p object
 
--- the object is a reached Normal one
-pub record IsQueued (p : PauseView) (f : Found) : Type 0 where
-  pub is : found p f.base ≡ Some f
-  pub normal : f.kind ≡ Normal
-  pub reached : IsReachable p f
+-- what waits is a reached Normal object
+pub record IsQueued (p : PauseView) (o : Unread) : Type 0 where
+  pub object : Found
+  pub is : found p object.base ≡ Some object
+  pub same : unread_of object ≡ o
+  pub normal : object.kind ≡ Normal
+  pub reached : IsReachable p object
 
 -- A helper at work, between two objects. Each word of a Normal object that it won was read, or the helper will come to it, or
 -- its page is dirty in the helper's row; on each page that it carries stands a stray word of a reached Normal object; and it won what
@@ -46,7 +49,7 @@ pub record IsServing (p : PauseView) (h : Helper) : Type 0 where
       → IsWordRead p (view h.claimer) h.carried f i ⊎ IsAwaitedBy h f i
   pub dirtied : (q : ℕ) → Has h.dirty q → IsPageOfWon p h q
   pub strays : (q : ℕ) → Has h.carried q → IsStrayPage (found p) p.memory p.roots p.marker q
-  pub queued : (f : Found) → Contains h.waiting f → IsQueued p f
+  pub queued : (o : Unread) → Contains h.waiting o → IsQueued p o
   pub within : (k : ℕ) → Contains (won_of h) k → IsReachedAt p k
   pub own : AreWon h
 

@@ -7,7 +7,7 @@ ghost use Rattle.block_map.specs.Objects.{IsPlaced};
 ghost use Rattle.final_pause.specs.Helping.{place_of, QueuesObject};
 
 use crate::gate::Gate;
-use crate::waiting::Waiting;
+use crate::waiting::{Unread, Waiting};
 use block_map::Found;
 use dirty_pages::DirtyPages;
 use mark_bits::{Claimer, MarkTable};
@@ -74,7 +74,11 @@ pub(crate) fn queue(helper: &mut Helper, found: Found, may_wait: bool)
     if found.kind == Kind::PointerFree {
         return;
     }
-    if may_wait && helper.waiting.put(found) {
+    let unread = Unread {
+        base: found.base,
+        len: found.len,
+    };
+    if may_wait && helper.waiting.put(unread) {
         return;
     }
     put_off(helper, found);

@@ -3,16 +3,18 @@ ghost use Rattle.std.specs.Prelude.{◌≡◌, ℕ, ◌+◌, ◌<◌, ◌≤◌,
 ghost use Rattle.mark_bits.specs.Tables.{view, granules_of};
 ghost use Rattle.words.specs.Layout.{granule, page_of};
 ghost use Rattle.words.specs.declared.limits.TheConstants.{FIRST_ADDRESS};
-ghost use Rattle.block_map.specs.FoundIn.{found_in, IsLawful};
+ghost use Rattle.block_map.specs.declared.found.Found.{Found};
+ghost use Rattle.block_map.specs.FoundIn.{found_in};
 ghost use Rattle.marker.specs.Marking.{IsOutside, bytes_of, word_address};
 ghost use Rattle.marker.specs.Growth.{TellsStray};
-ghost use Rattle.final_pause.specs.Helping.{IsReadyPause, IsObjectOf, IsHelperOf, Visits, VisitsAll, ReadsWords};
+ghost use Rattle.final_pause.specs.Helping.{unread_of, IsReadyPause, IsObjectOf, IsHelperOf, IsRowOf, Visits, VisitsAll, ReadsWords};
 ghost use Rattle.final_pause.specs.Pauses.{pause_view};
 ghost use Rattle.final_pause.specs.Serving.{IsServing, GoesOnServing, HasServed, AreRootsRead};
 
 use crate::gate::Gate;
 use crate::helper::{Helper, carry, claim, put_off, queue};
 use crate::piece::Piece;
+use crate::waiting::Unread;
 use block_map::{BlockMap, Found};
 use mark_bits::MarkTable;
 use marker::Marker;
@@ -66,25 +68,25 @@ impl<'a> Pause<'a> {
         word.wrapping_sub(FIRST_ADDRESS) < bytes
     }
 
-    // The object that a word in the heap's range points into. Most such words are the base of one in a cell, which costs less to find.
+    // Marks an object. Where this helper is the first to, it is its own to read.
     #[inline]
-    fn target(&self, word: u64) -> Option<Found>
-        requires ready { IsReadyPause (pause_view self.now) }
-        requires inside { (FIRST_ADDRESS ≤ word) × (word < FIRST_ADDRESS + bytes_of self.now.marker.now) }
-        ensures found { result ≡ found_in self.now.map.now word }
-        ensures lawful { IsLawful self.now.map.now }
+    fn mark<G: Gate>(&self, gate: &G, helper: &mut Helper, found: Found, may_wait: bool)
+        requires helper { IsHelperOf (pause_view self.now) helper.old }
+        requires object { found_in self.now.map.now found.base ≡ Some found }
+        ensures { (w : ℕ) → found_in self.now.map.now w ≡ Some found → Visits (pause_view self.now) w helper.old helper.new }
     {
-        if word % GRANULE_BYTES == 0 {
-            if let Some(found) = self.map.base_in_cell(word) {
-                return Some(found);
-            }
+        let granule = self.granule(found);
+        // A look is cheaper than a claim, and many words point into marked objects.
+        if self.table.is_set(&mut helper.claimer, granule) {
+            return;
         }
-        self.map.find(word)
+        if claim(self.table, gate, helper, granule) {
+            queue(helper, found, may_wait);
+        }
     }
 
-    // Marks the object that a word points into. Where this helper is the first to, the object is its own to read. Answers
-    // whether the word is stray: it lies in the heap's range and points into no object. Most words lie outside, and the loop over words
-    // is to hold that test alone.
+    // Marks the object that a word points into, and answers whether the word is stray: it lies in the heap's range and points into no
+    // object. Most words lie outside, and the loop over words is to hold that test alone.
     #[inline]
     fn visit<G: Gate>(&self, gate: &G, helper: &mut Helper, bytes: u64, word: u64) -> bool
         requires helper { IsHelperOf (pause_view self.now) helper.old }
@@ -99,7 +101,8 @@ impl<'a> Pause<'a> {
         }
     }
 
-    /// The same of a word in the heap's range. The object is left to its pages where it isn't to wait.
+    /// The same of a word in the heap's range. The object is left to its pages where it isn't to wait. Most such words are the base of
+    /// one in a cell, which costs less to find.
     #[inline(never)]
     pub(crate) fn visit_target<G: Gate>(
         &self,
@@ -113,17 +116,27 @@ impl<'a> Pause<'a> {
         ensures visits { Visits (pause_view self.now) word helper.old helper.new }
         ensures stray { TellsStray (found_in self.now.map.now) (bytes_of self.now.marker.now) (word ∷ []) result }
     {
-        let Some(found) = self.target(word) else {
+        if word % GRANULE_BYTES == 0 {
+            if let Some(found) = self.map.base_in_cell(word) {
+                self.mark(gate, helper, found, may_wait);
+                return false;
+            }
+        }
+        self.visit_other(gate, helper, word, may_wait)
+    }
+
+    // The same of any word.
+    #[inline(never)]
+    fn visit_other<G: Gate>(&self, gate: &G, helper: &mut Helper, word: u64, may_wait: bool) -> bool
+        requires helper { IsHelperOf (pause_view self.now) helper.old }
+        requires inside { (FIRST_ADDRESS ≤ word) × (word < FIRST_ADDRESS + bytes_of self.now.marker.now) }
+        ensures visits { Visits (pause_view self.now) word helper.old helper.new }
+        ensures stray { TellsStray (found_in self.now.map.now) (bytes_of self.now.marker.now) (word ∷ []) result }
+    {
+        let Some(found) = self.map.find(word) else {
             return true;
         };
-        let granule = self.granule(found);
-        // A look is cheaper than a claim, and many words point into marked objects.
-        if self.table.is_set(&mut helper.claimer, granule) {
-            return false;
-        }
-        if claim(self.table, gate, helper, granule) {
-            queue(helper, found, may_wait);
-        }
+        self.mark(gate, helper, found, may_wait);
         false
     }
 
@@ -142,6 +155,19 @@ impl<'a> Pause<'a> {
         stray
     }
 
+    // Marks what so many words from an address on point into, which are words of one object on one page. The page is carried if one of
+    // them is stray.
+    #[inline]
+    fn read_row<G: Gate>(&self, gate: &G, helper: &mut Helper, start: u64, count: u64)
+        requires fits { IsHelperOf (pause_view self.now) helper.old }
+        requires row { (f : Found) × (first : ℕ) × IsRowOf (pause_view self.now) f first start count }
+        ensures { (f : Found) (first : ℕ) → IsRowOf (pause_view self.now) f first start count → ReadsWords (pause_view self.now) f first count helper.old helper.new }
+    {
+        if self.visit_all(gate, helper, self.memory.read_run(start, count)) {
+            carry(helper, page_of(start) as PageNo);
+        }
+    }
+
     /// Marks what words of an object point into, which stand on one page. The page is carried if one of them is stray.
     pub(crate) fn read_run<G: Gate>(&self, gate: &G, helper: &mut Helper, piece: Piece)
         requires fits { IsHelperOf (pause_view self.now) helper.old }
@@ -151,9 +177,7 @@ impl<'a> Pause<'a> {
         ensures { ReadsWords (pause_view self.now) piece.found piece.first piece.count helper.old helper.new }
     {
         let start = piece.found.base + WORD_BYTES * u64::from(piece.first);
-        if self.visit_all(gate, helper, self.memory.read_run(start, piece.count)) {
-            carry(helper, page_of(start) as PageNo);
-        }
+        self.read_row(gate, helper, start, piece.count);
     }
 
     // Marks what words of an object point into, page by page.
@@ -193,6 +217,26 @@ impl<'a> Pause<'a> {
         }
     }
 
+    // Reads the words of an object that waited. Most lie on one page.
+    #[inline]
+    fn read_whole<G: Gate>(&self, gate: &G, helper: &mut Helper, unread: Unread)
+        requires fits { IsHelperOf (pause_view self.now) helper.old }
+        requires object { (f : Found) × (found_in self.now.map.now f.base ≡ Some f) × (unread_of f ≡ unread) }
+        ensures { (f : Found) → found_in self.now.map.now f.base ≡ Some f → unread_of f ≡ unread → ReadsWords (pause_view self.now) f 0 f.len helper.old helper.new }
+    {
+        let words = u64::from(unread.len);
+        if unread.base % PAGE_BYTES + WORD_BYTES * words <= PAGE_BYTES {
+            self.read_row(gate, helper, unread.base, words);
+        } else {
+            let whole = Piece {
+                found: self.map.object_at(unread.base),
+                first: 0,
+                count: words,
+            };
+            self.read_words(gate, helper, whole);
+        }
+    }
+
     // Reads the objects that wait, and those that come, until none is left. One that is long beside what the helper may still read is
     // left to its pages, which all read together in the next round.
     pub(crate) fn read_waiting<G: Gate>(&self, gate: &G, helper: &mut Helper)
@@ -200,18 +244,13 @@ impl<'a> Pause<'a> {
         ensures serves { GoesOnServing (pause_view self.now) helper.old helper.new }
         ensures empty { helper.new.waiting ≡ [] }
     {
-        while let Some(found) = helper.waiting.take(self.memory) {
-            let words = u64::from(found.len);
+        while let Some(unread) = helper.waiting.take(self.memory) {
+            let words = u64::from(unread.len);
             if words > helper.left / LONG {
-                put_off(helper, found);
+                put_off(helper, self.map.object_at(unread.base));
             } else {
                 helper.left -= words;
-                let whole = Piece {
-                    found,
-                    first: 0,
-                    count: words,
-                };
-                self.read_words(gate, helper, whole);
+                self.read_whole(gate, helper, unread);
             }
         }
     }
