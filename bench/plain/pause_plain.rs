@@ -25,8 +25,14 @@ const SLICE: u64 = 1_024;
 const DIRTY_PAGES: usize = 16;
 const ENTRIES_EACH: usize = 4;
 
+#[derive(Clone, Copy)]
+struct Unread {
+    base: u64,
+    len: u32,
+}
+
 struct Helper {
-    stack: Vec<Found>,
+    stack: Vec<Unread>,
     dirty: Vec<u64>,
     carried: Vec<u64>,
 }
@@ -45,7 +51,7 @@ impl Pause<'_> {
             return;
         }
         if helper.stack.len() < ENTRIES {
-            helper.stack.push(found);
+            helper.stack.push(Unread { base: found.base, len: found.len });
             return;
         }
         let first = (found.base - START) / 4_096;
@@ -73,9 +79,9 @@ impl Pause<'_> {
 
     // Reads the words of an object from one on, page by page, and carries those with a word that lies in the heap and points into
     // nothing.
-    fn read_words(&self, helper: &mut Helper, found: Found, first: u32) {
-        let start = ((found.base - START) / 8) as usize;
-        let (mut at, end) = (start + first as usize, start + found.len as usize);
+    fn read_words(&self, helper: &mut Helper, object: Unread, first: u32) {
+        let start = ((object.base - START) / 8) as usize;
+        let (mut at, end) = (start + first as usize, start + object.len as usize);
         while at < end {
             let stop = end.min((at / 512 + 1) * 512);
             let mut stray = false;
@@ -90,8 +96,8 @@ impl Pause<'_> {
     }
 
     fn read_stack(&self, helper: &mut Helper) {
-        while let Some(found) = helper.stack.pop() {
-            self.read_words(helper, found, 0);
+        while let Some(object) = helper.stack.pop() {
+            self.read_words(helper, object, 0);
         }
     }
 
@@ -99,7 +105,7 @@ impl Pause<'_> {
     fn read_entries(&self, helper: &mut Helper, entries: &[Entry]) {
         for Entry { base, next, .. } in entries {
             if let Some(found) = find(self.map, *base) {
-                self.read_words(helper, found, *next);
+                self.read_words(helper, Unread { base: found.base, len: found.len }, *next);
             }
             self.read_stack(helper);
         }
