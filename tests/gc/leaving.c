@@ -146,7 +146,7 @@ static void *make_steps(void *data)
 static int is_cancelled_while_it_writes(void)
 {
     pthread_t stepper, writers[WRITERS];
-    alarm(60);
+    alarm(180);
     GC_enable_incremental();
     written = GC_malloc_uncollectable(OBJECTS * sizeof *written);
     for (int k = 0; k < OBJECTS; k++) written[k] = GC_malloc(OBJECT);
@@ -202,7 +202,7 @@ static void jumped_out_of_a_finalizer(void)
 
 int main(void)
 {
-    alarm(300);
+    alarm(600);
     GC_INIT();
     if (getenv("INCREMENTAL")) GC_enable_incremental();
     jumped_out_of_a_finalizer();
