@@ -360,7 +360,8 @@ void mpgc_leave_open(void)
 }
 
 // Counted under sizes and memory.
-// Closed pages are no data to the kernel: so it would refuse to open them, where the process comes to have more than it may.
+// Closed pages are no data to the kernel: so it would refuse to open them, where the process comes to have more than it may. Or it comes to write where
+// no call tells of it.
 void mpgc_close_no_more(void)
 {
     mpgc_lock();

@@ -1,7 +1,7 @@
 // Calls of the C library by which the kernel writes into the program's memory: files. A closed page makes no fault then: the call would
 // answer EFAULT. So the pages are told and opened first. Only in libmpgc.so, with those of sockets, waiting and times (syscalls_more.c), copies
 // (syscalls_copies.c), queues (syscalls_queues.c), locks (syscalls_locks.c), others (syscalls_others.c), `syscall` (syscalls_direct.c), what is done
-// beside the program (syscalls_aio.c), what threads of its own call (syscalls_notices.c), functions that hand places on (syscalls_within.c) and the
+// beside the program (syscalls_aio.c, syscalls_lookups.c), what threads of its own call (syscalls_notices.c), functions that hand places on (syscalls_within.c) and the
 // checked names of these (syscalls_checked.c); what is in none of them answers EFAULT, as with bdwgc, and loses nothing.
 #include "next.h"
 #include <stdio.h>

@@ -6,7 +6,7 @@
 # once there, and `new:` what stands in its place; `over: checking` that the layer stands over the core that checks what is owed, and
 # `over: races` that it is built to look for races.
 planted() {
-    local name file over test status runs=$2 words=() setting=() parts=$room flags=()
+    local name file over test status runs=$2 words=() setting=() parts=$room flags=() others=() one
     name=$(basename "$1" .edit)
     file=$(sed -n 's/^file: //p' "$1")
     over=$(sed -n 's/^over: //p' "$1")
@@ -24,6 +24,7 @@ planted() {
         parts=$room/races
         flags=("${races[@]}")
     fi
+    for one in "$parts"/syscalls*.o; do [ "$(basename "$one" .o)" = "$(basename "$file" .c)" ] || others+=("$one"); done
     if ! awk -v "old=$(sed -n 's/^old: //p' "$1" | sed 's/\\/\\\\/g')" -v "new=$(sed -n 's/^new: //p' "$1" | sed 's/\\/\\\\/g')" '
         { at = index($0, old) }
         at { count++; $0 = substr($0, 1, at - 1) new substr($0, at + length(old)) }
@@ -32,8 +33,8 @@ planted() {
         echo "its text doesn't stand once"
         return
     fi
-    cc -std=c11 -O1 -w -fexceptions "${flags[@]}" -fvisibility=hidden "-I$top/include/mpgc" "-I$include" "-I$top/gc" "-I$top/gc/names" \
-        "$room/$name.c" "$top/tests/gc/$test.c" "$parts"/syscalls*.o "$room/$over/libmpgc.a" -pthread -o "$room/planted_$name" 2>&1 || return
+    cc -std=c11 -O1 -w -fexceptions "${flags[@]}" -fvisibility=hidden "-I$top/include/mpgc" "-I$include" "-I$top/gc" "-I$top/gc/names" "-I$top/gc/kernel" \
+        "$room/$name.c" "$top/tests/gc/$test.c" "${others[@]}" "$room/$over/libmpgc.a" -pthread -o "$room/planted_$name" 2>&1 || return
     while
         { timeout -k 10 1500 env "TSAN_OPTIONS=die_after_fork=0 halt_on_error=1" "${setting[@]:1}" "$room/planted_$name" "${words[@]}" >"$room/said_$name" 2>&1; } 2>>"$room/said_$name"
         status=$?
