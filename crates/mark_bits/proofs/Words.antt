@@ -1,11 +1,11 @@
 -- The bits of the words of a table, and what a claimer knows of them.
 use Rattle.std.proofs.Common.{◌≡◌, ◌≢◌, ℕ, zero, suc, ◌*◌, ◌/◌, ◌%◌, ◌^◌, ◌<◌, ◌≤◌, ◌⊎◌, Bool, true, false, ◌&&◌, ◌||◌, ◌==◌, eq-eqb, ne_eqb, List, [], ◌∷◌, ◌++◌, length, get_or, set, take, refl, sym, ap, ◌∙◌, arith, inl, inr, ⊎_elim}
 use Rattle.std.specs.Int.{bit_at, w64}
-use Rattle.std.specs.Int.RustNames.{bit_or}
+use Rattle.std.specs.Int.RustNames.{bit_and, bit_or}
 use Rattle.std.proofs.lemmas.List.{same_lists, get_or_past, get_or-take}
 use Rattle.std.proofs.lemmas.Bool.{cases_lt, cases_eq, false≢true, eqb-true}
-use Rattle.std.proofs.lemmas.Nat.{one_shl, pow_below}
-use Rattle.std.proofs.lemmas.Nat.Bits.{bit_at-zero, bit_at_set_same, bit_at_set_other}
+use Rattle.std.proofs.lemmas.Nat.{one_shl, pow_below, pow_pos}
+use Rattle.std.proofs.lemmas.Nat.Bits.{and_pow, bit_at-lt, bit_at-zero, bit_at_set_same, bit_at_set_other}
 use mathlib.Core.Option.{some, some-injective, some-ne-none}
 use native.Mathlib.Decide.{ℕ_discrete}
 use lib.ListN.{get_elem?}
@@ -14,6 +14,22 @@ use Rattle.words.proofs.Rows.{bit_here, bit_else, length-bits, get_or-bits}
 use Rattle.mark_bits.specs.declared.claimer_view.ClaimerView.{ClaimerView}
 use Rattle.mark_bits.specs.Claims.{shows, knows, has}
 use Rattle.mark_bits.specs.Rule.{mask, after_claim}
+
+-- the test of a bit by its mask
+pub masked-clear : (n k : ℕ) → k < 64 → (bit_and n (1 * 2 ^ k % 2 ^ 64) == 0) ≡ (bit_at n k == 0)
+masked-clear n k h =
+    let masked : bit_and n (1 * 2 ^ k % 2 ^ 64) ≡ bit_at n k * 2 ^ k = ap (bit_and n) (one_shl k 64 h) ∙ and_pow n k in
+    ⊎_elim
+    (λ (clear : bit_at n k ≡ 0). let none : bit_at n k * 2 ^ k ≡ 0 * 2 ^ k = ap (λ b. b * 2 ^ k) clear in
+    let zero_then : bit_and n (1 * 2 ^ k % 2 ^ 64) ≡ 0 = omega arith in
+    eq-eqb _ 0 zero_then ∙ sym (eq-eqb _ 0 clear))
+    (λ taken.
+    let below : bit_at n k < 2 = bit_at-lt n k in
+    let is : bit_at n k ≡ 1 = omega arith in
+    let some : bit_and n (1 * 2 ^ k % 2 ^ 64) ≡ 1 * 2 ^ k = masked ∙ ap (λ b. b * 2 ^ k) is in
+    let pow = pow_pos k in
+    ne_eqb _ 0 (λ none. absurd (omega arith)) ∙ sym (ne_eqb _ 0 taken))
+    (cases_eq (bit_at n k) 0)
 
 -- past the words no bit is set
 pub bit_past : (words : List ℕ) (k : ℕ) → length words ≤ k / 64 → bit words k ≡ false

@@ -1,7 +1,8 @@
 //! The marks while several threads claim them.
 //!
 //! docs/CRATES.md tells the rest: who holds what, and when.
-ghost use Rattle.std.specs.Prelude.{◌≡◌, ℕ, ◌*◌, ◌/◌, ◌<◌, ◌≤◌, length, true, false, ◌∷◌, if◌then◌else◌, slice_index_or, IfOk, IfErr};
+ghost use Rattle.std.specs.Prelude.{◌≡◌, ℕ, ◌*◌, ◌/◌, ◌%◌, ◌==◌, ◌<◌, ◌≤◌, length, true, false, ◌∷◌, if◌then◌else◌, slice_index_or, IfOk, IfErr};
+ghost use Rattle.std.specs.Int.{bit_at};
 ghost use Rattle.std.specs.Slots.{slots_items, slots_len, IsFull};
 ghost use Rattle.words.specs.Bits.{bit, IsEmptyFrom};
 ghost use Rattle.words.specs.declared.limits.TheConstants.{PAGE_GRANULES};
@@ -70,6 +71,15 @@ impl Join<ClaimerView> for Parts {
     ghost both = { joined };
 
     ghost spent = { spent };
+}
+
+// Whether a word has not the bit. The test by the same mask is one instruction together with the `fetch_or` before it, which by a shift would
+// be a loop.
+#[inline]
+fn is_clear(word: u64, bit: usize) -> bool
+    ensures { result ≡ (bit_at word (bit % 64) == 0) }
+{
+    word & (1 << (bit % 64)) == 0
 }
 
 /// The marks while several threads claim them. It has the words of the first pages, and what is past those pages isn't claimed.
@@ -159,7 +169,7 @@ impl MarkTable {
             .table
             .shared
             .fetch_or::<Claim>(&mut me.seat, bit / 64, 1 << (bit % 64));
-        (found >> (bit % 64)) & 1 == 0
+        is_clear(found, bit)
     }
 
     /// Whether the bit is set: true for each bit that was set at the start or that the claimer knows, and true
