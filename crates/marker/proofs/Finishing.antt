@@ -1,4 +1,4 @@
--- Objects that were begun together are read to their ends, one after the other, while the others wait.
+-- Objects that are read together: one after the other, while the others wait.
 use Rattle.std.proofs.Common.{◌≡◌, ℕ, ◌+◌, ◌*◌, ◌<◌, ◌≤◌, List, [], ◌∷◌, ◌++◌, length, Option, refl, sym, ap, ◌∙◌, append_assoc, length-append, arith}
 use Rattle.std.proofs.lemmas.List.{length_push}
 use Rattle.std.proofs.lemmas.List.FromFn.{length-map-range_with_len}
@@ -71,18 +71,15 @@ module _ (found : ℕ → Option Found) (lower waiting : List Entry) where
           }
 
 -- Whoever is begun stays so.
-pub begun_more : (pages : ℕ) (found : ℕ → Option Found) (moments : List (List ℕ)) (a b : Marking) → ((k : ℕ) → IsMarked a k → IsMarked b k) → (bs : List Begun) → AreBegun pages found moments a bs → AreBegun pages found moments b bs
-begun_more pages found moments a b more bs all x h =
+pub begun_more : (pages : ℕ) (found : ℕ → Option Found) (a b : Marking) → ((k : ℕ) → IsMarked a k → IsMarked b k) → (bs : List Begun) → AreBegun pages found a bs → AreBegun pages found b bs
+begun_more pages found a b more bs all x h =
     let i = all x h in
     record {
       object = i.object;
       unread = unread_more found a b (entry_begun x) i.object more i.unread;
       len = i.len;
-      two = i.two;
       placed = i.placed;
       one_page = i.one_page;
-      first = i.first;
-      second = i.second;
     }
 
 -- An object is read to its end, while these others wait.

@@ -1,9 +1,6 @@
--- Objects that are begun together.
-use Rattle.std.specs.Prelude.{◌≡◌, ℕ, ◌+◌, ◌<◌, ◌≤◌, List, map, reverse, sum_by, Contains, Option}
-use Rattle.words.specs.declared.limits.TheConstants.{WORD_BYTES}
+-- Objects that are read together.
+use Rattle.std.specs.Prelude.{◌≡◌, ℕ, ◌<◌, List, map, reverse, sum_by, Contains, Option}
 use Rattle.words.specs.Layout.{page_of}
-use Rattle.pages.specs.Memory.{word_at}
-use Rattle.pages.specs.Reads.{IsWoven}
 use Rattle.block_map.specs.declared.found.Found.{Found}
 use Rattle.block_map.specs.Objects.{IsPlaced}
 use Rattle.marker.specs.declared.entry.Entry.{Entry}
@@ -19,25 +16,18 @@ entry_begun b = record { base = b.base; next = 0; len = b.len }
 abbrev pub entries_begun : List Begun → List Entry
 entries_begun bs = reverse (map entry_begun bs)
 
--- the words of begun objects, with the two of each that are read
+-- the words of begun objects
 abbrev pub words_begun : List Begun → ℕ
 words_begun bs = sum_by (λ (b : Begun). b.len) bs
 
--- this is the word at the address, as it was at one of the moments
-abbrev pub IsSeen : List (List ℕ) → ℕ → ℕ → Type 0
-IsSeen moments address w = (seen : List ℕ) × IsWoven moments seen × (w ≡ word_at seen address)
-
--- All words of this object were left to read, and stand on one page; its first two are these.
-pub record IsBegun (pages : ℕ) (found : ℕ → Option Found) (moments : List (List ℕ)) (m : Marking) (b : Begun) : Type 0 where
+-- All words of this object are left to read, and stand on one page.
+pub record IsBegun (pages : ℕ) (found : ℕ → Option Found) (m : Marking) (b : Begun) : Type 0 where
   pub object : Found
   pub unread : IsUnread found m (entry_begun b) object
   pub len : b.len ≡ object.len
-  pub two : 2 ≤ b.len
   pub placed : IsPlaced pages object
   pub one_page : (i : ℕ) → i < object.len → page_of (word_address object i) ≡ page_of (word_address object 0)
-  pub first : IsSeen moments b.base b.first
-  pub second : IsSeen moments (b.base + WORD_BYTES) b.second
 
 -- each of these objects is begun
-abbrev pub AreBegun : ℕ → (ℕ → Option Found) → List (List ℕ) → Marking → List Begun → Type 0
-AreBegun pages found moments m bs = (b : Begun) → Contains bs b → IsBegun pages found moments m b
+abbrev pub AreBegun : ℕ → (ℕ → Option Found) → Marking → List Begun → Type 0
+AreBegun pages found m bs = (b : Begun) → Contains bs b → IsBegun pages found m b

@@ -1,12 +1,12 @@
-//! Objects that are begun together: the first words of several are read before one of them is read on. So the processor
-//! fetches all of these words at once, where it would wait for those of one object after the other.
-ghost use Rattle.std.specs.Prelude.{◌≡◌, ℕ, ◌+◌, ◌*◌, ◌≤◌, ◌++◌, ◌∷◌, [], length, true, Some};
+//! Objects that are read together: a word of each is looked at before the first of them is read. So the processor fetches all of these
+//! words at once, where it would wait for those of one object after the other. Nothing else stands between these looks, and each word
+//! that is looked at is read.
+ghost use Rattle.std.specs.Prelude.{◌≡◌, ℕ, ◌+◌, ◌*◌, ◌≤◌, ◌++◌, ◌∷◌, [], length, Contains};
 ghost use Rattle.words.specs.declared.limits.TheConstants.{MARK_STACK_ENTRIES, PAGE_BYTES, PAGE_WORDS};
-ghost use Rattle.words.specs.Layout.{page_of};
-ghost use Rattle.block_map.specs.declared.found.Found.{Found};
+ghost use Rattle.pages.specs.Memory.{IsWordAddress};
 ghost use Rattle.block_map.specs.FoundIn.{found_in, IsLawful};
-ghost use Rattle.marker.specs.Marking.{with_stack, word_address, AreMarksObjects};
-ghost use Rattle.marker.specs.Beside.{MarksRow};
+ghost use Rattle.marker.specs.declared.together.Begun.{Begun as BegunValue};
+ghost use Rattle.marker.specs.Marking.{with_stack, AreMarksObjects};
 ghost use Rattle.marker.specs.Entries.{IsOnTop, AreUnreadFrom, TakesWhole};
 ghost use Rattle.marker.specs.Begun.{IsBegun, AreBegun, entry_begun, entries_begun, words_begun};
 
@@ -16,52 +16,42 @@ use crate::stack::ENTRIES;
 use arrayvec::ArrayVec;
 use block_map::BlockMap;
 use pages::Reader;
-use words::limits::{PAGE_WORDS, WORD_BYTES};
+use words::limits::PAGE_WORDS;
 
-// So many objects are begun together.
-pub(crate) const TOGETHER: usize = 8;
+// So many objects at most are read together.
+pub(crate) const TOGETHER: usize = 32;
 
-/// An object that was taken off the stack, and its first two words. They stand apart here, or a compiler would read both by
-/// one load, where each word that others write is to be read by a load of its own.
+/// An object whose entry was taken off the stack: its base, and how many words it has, all of which are to be read.
 #[derive(Clone, Copy, Debug, Default)]
 pub(crate) struct Begun {
-    first: u64,
     base: u64,
-    second: u64,
     len: u32,
 }
 
-// Whether an object has two words, and so many at most.
+// Looks at the first words of begun objects.
 #[inline]
-fn is_short(len: u32, most: u64) -> bool
-    ensures two { result ≡ true → 2 ≤ len }
-    ensures most { result ≡ true → len ≤ most }
+fn look_at(reader: &mut Reader, begun: &ArrayVec<Begun, TOGETHER>)
+    requires { (b : BegunValue) → Contains begun.now.items b → IsWordAddress reader.old.words b.base }
+    ensures { reader.new ≡ reader.old }
 {
-    len >= 2 && u64::from(len) <= most
+    for k in 0..begun.len() {
+        reader.look(begun[k].base);
+    }
 }
 
 impl Marker {
-    // Takes the entry on top off the stack, and reads the first two words of its object.
+    // Takes the entry on top off the stack.
     #[inline]
-    fn begin_top(&mut self, map: &BlockMap, reader: &mut Reader, entry: Entry) -> Begun
+    fn begin_top(&mut self, map: &BlockMap, entry: Entry) -> Begun
         requires top { IsOnTop (length map.now) (found_in map.now) self.old entry }
-        requires two { 2 ≤ entry.len }
-        requires memory { length reader.old.words ≡ PAGE_WORDS * length map.now }
-        ensures begun { IsBegun (length map.now) (found_in map.now) reader.old.moments self.new result }
+        ensures begun { IsBegun (length map.now) (found_in map.now) self.new result }
         ensures len { result.len ≡ entry.len }
         ensures taken { self.old ≡ with_stack self.new (self.new.stack ++ entry_begun result ∷ []) }
-        ensures words { reader.new.words ≡ reader.old.words }
-        ensures moments { reader.new.moments ≡ reader.old.moments }
-        ensures reads { reader.new.reads ≡ reader.old.reads + 2 }
     {
         self.drop_top();
-        let first = reader.read(entry.base);
-        let second = reader.read(entry.base + WORD_BYTES);
         Begun {
             base: entry.base,
             len: entry.len,
-            first,
-            second,
         }
     }
 
@@ -71,22 +61,17 @@ impl Marker {
     fn begin_objects(
         &mut self,
         map: &BlockMap,
-        reader: &mut Reader,
         known: usize,
         most: u64,
         begun: &mut ArrayVec<Begun, TOGETHER>,
     )
         requires known { AreUnreadFrom (found_in map.now) self.old known self.old.stack }
         requires most { most ≤ PAGE_WORDS }
-        requires memory { length reader.old.words ≡ PAGE_WORDS * length map.now }
         requires none { begun.old.items ≡ [] }
-        ensures begun { AreBegun (length map.now) (found_in map.now) reader.old.moments self.new begun.new.items }
+        ensures begun { AreBegun (length map.now) (found_in map.now) self.new begun.new.items }
         ensures taken { self.old ≡ with_stack self.new (self.new.stack ++ entries_begun begun.new.items) }
         ensures known { AreUnreadFrom (found_in map.now) self.new known self.new.stack }
         ensures most { words_begun begun.new.items ≤ most }
-        ensures words { reader.new.words ≡ reader.old.words }
-        ensures moments { reader.new.moments ≡ reader.old.moments }
-        ensures reads { reader.new.reads ≡ reader.old.reads + 2 * length begun.new.items }
     {
         let mut left = most;
         for _ in 0..TOGETHER {
@@ -96,45 +81,17 @@ impl Marker {
             let Some(entry) = self.top(map, known) else {
                 return;
             };
-            if !is_short(entry.len, left) {
+            if u64::from(entry.len) > left {
                 return;
             }
             left -= u64::from(entry.len);
-            begun.push(self.begin_top(map, reader, entry));
+            begun.push(self.begin_top(map, entry));
         }
     }
 
-    // Marks what the words of a begun object point into. Its page is carried if one of them is stray.
+    // Reads begun objects, where the stack has room for all that they may lead to. Answers how many words they have.
     #[inline]
-    fn mark_begun(&mut self, map: &BlockMap, heap_bytes: u64, reader: &mut Reader, begun: Begun)
-        requires pages { length self.old.dirty ≡ length map.now }
-        requires objects { AreMarksObjects (found_in map.now) self.old }
-        requires lawful { IsLawful map.now }
-        requires bytes { heap_bytes ≡ PAGE_BYTES * length map.now }
-        requires memory { length reader.old.words ≡ PAGE_WORDS * length map.now }
-        requires begun { IsBegun (length map.now) (found_in map.now) reader.old.moments self.old begun }
-        ensures row { (f : Found) → found_in map.now begun.base ≡ Some f → f.base ≡ begun.base → MarksRow (found_in map.now) reader.old.moments f 0 f.len (PAGE_BYTES * length map.now) (page_of (word_address f 0)) self.old self.new }
-        ensures words { reader.new.words ≡ reader.old.words }
-        ensures moments { reader.new.moments ≡ reader.old.moments }
-        ensures reads { reader.new.reads + 2 ≡ reader.old.reads + begun.len }
-        ensures objects { AreMarksObjects (found_in map.now) self.new }
-    {
-        self.laws();
-        reader.laws();
-        let others = u64::from(begun.len) - 2;
-        let first = self.mark_word(map, heap_bytes, begun.first, false);
-        let second = self.mark_word(map, heap_bytes, begun.second, false);
-        let words = reader.read_run(begun.base + 2 * WORD_BYTES, others);
-        let rest = self.mark_all(map, heap_bytes, words, false);
-        if first | second | rest {
-            self.carry(begun.base);
-        }
-    }
-
-    // Reads begun objects to their ends, where the stack has room for all that they may lead to. Answers how many words they
-    // have.
-    #[inline]
-    fn finish_objects(
+    fn read_begun(
         &mut self,
         map: &BlockMap,
         heap_bytes: u64,
@@ -146,27 +103,28 @@ impl Marker {
         requires lawful { IsLawful map.now }
         requires bytes { heap_bytes ≡ PAGE_BYTES * length map.now }
         requires memory { length reader.old.words ≡ PAGE_WORDS * length map.now }
-        requires begun { AreBegun (length map.now) (found_in map.now) reader.old.moments self.old begun.now.items }
+        requires begun { AreBegun (length map.now) (found_in map.now) self.old begun.now.items }
         requires room { length self.old.stack + length begun.now.items + words_begun begun.now.items ≤ MARK_STACK_ENTRIES }
         ensures takes { TakesWhole (found_in map.now) reader.old.moments (with_stack self.old (self.old.stack ++ entries_begun begun.now.items)) result self.new }
         ensures known { (n : ℕ) → AreUnreadFrom (found_in map.now) self.old n self.old.stack → AreUnreadFrom (found_in map.now) self.new n self.new.stack }
         ensures all { result ≡ words_begun begun.now.items }
         ensures words { reader.new.words ≡ reader.old.words }
         ensures moments { reader.new.moments ≡ reader.old.moments }
-        ensures reads { reader.new.reads + 2 * length begun.now.items ≡ reader.old.reads + result }
+        ensures reads { reader.new.reads ≡ reader.old.reads + result }
         ensures objects { AreMarksObjects (found_in map.now) self.new }
     {
         self.laws();
         let mut read = 0;
         for k in 0..begun.len() {
-            let one = begun[k];
-            self.mark_begun(map, heap_bytes, reader, one);
-            read += u64::from(one.len);
+            let Begun { base, len } = begun[k];
+            let count = u64::from(len);
+            self.mark_words(map, heap_bytes, reader, base, 0, count, false);
+            read += count;
         }
         read
     }
 
-    // Reads objects whole that are begun together: those of the entries on top of the stack, while these are known to have
+    // Reads objects whole, of which each was looked at before: those of the entries on top of the stack, while these are known to have
     // words, at most so many words, and only as many as the stack has room for what they may lead to. Answers how many words. It is
     // no part of its caller, which has lists to follow that have one entry.
     #[inline(never)]
@@ -195,13 +153,8 @@ impl Marker {
         self.laws();
         let room = (ENTRIES - self.depth()) as u64;
         let mut begun = ArrayVec::new();
-        self.begin_objects(
-            map,
-            reader,
-            known,
-            most.min(PAGE_WORDS).min(room),
-            &mut begun,
-        );
-        self.finish_objects(map, heap_bytes, reader, &begun)
+        self.begin_objects(map, known, most.min(PAGE_WORDS).min(room), &mut begun);
+        look_at(reader, &begun);
+        self.read_begun(map, heap_bytes, reader, &begun)
     }
 }

@@ -15,11 +15,11 @@ use block_map::BlockMap;
 use pages::Reader;
 use words::limits::{PAGE_BYTES, WORD_BYTES};
 
-// Objects are read together where so many wait that are known to have words, and at most so many in all: eight of four words
-// each may fill the rest of the stack then. Few wait in a tree, which mostly lies in the order in which it is marked, so that
-// the processor itself fetches it ahead.
-const WIDE: usize = 2 * TOGETHER;
+// Objects are read together where so many wait that are known to have words. Where fewer do, as along a list, that would cost more than it
+// saves.
+const WIDE: usize = 4;
 
+// Where fewer entries are free, they are read one by one: objects that are read together may push one for each of their words.
 const CROWDED: usize = ENTRIES - 4 * TOGETHER;
 
 // Whether so many words from a base on stand on one page.

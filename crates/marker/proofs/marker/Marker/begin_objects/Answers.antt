@@ -1,4 +1,4 @@
-use Rattle.std.proofs.Common.{◌≡◌, ◌+◌, ◌∙◌, ◌++◌, ◌∷◌, [], length, get_or, refl, sym, ap, subst, ⊎_elim, append_assoc, arith}
+use Rattle.std.proofs.Common.{◌≡◌, ◌+◌, ◌∙◌, ◌++◌, ◌∷◌, [], length, get_or, sym, ap, subst, ⊎_elim, append_assoc, arith}
 use Rattle.std.specs.Prelude.{Contains}
 use Rattle.std.proofs.lemmas.List.{length_push}
 use Rattle.std.proofs.lemmas.List.Elements.{Contains-append_cases}
@@ -26,17 +26,14 @@ loop-preserved c =
     record {
       count = ap length put ∙ length_push items one ∙ ap (λ n. n + 1) i.count;
       begun = λ b h. ⊎_elim
-          (λ o. begun_more (length c.args.map.now) (found_in c.args.map.now) c.args.reader.now.moments c.loop.self new (λ k has. subst (λ r. Has r (granule k)) marks has) items i.begun b o)
+          (λ o. begun_more (length c.args.map.now) (found_in c.args.map.now) c.loop.self new (λ k has. subst (λ r. Has r (granule k)) marks has) items i.begun b o)
           (λ (n : Contains (one ∷ []) b).
           let l = n.1 in let z : n.0 ≡ 0 = omega arith in
-          subst (IsBegun (length c.args.map.now) (found_in c.args.map.now) c.args.reader.now.moments new) (sym (ap (λ j. get_or (one ∷ []) j b) z) ∙ n.2) (rw i.moments at e.begun))
+          subst (IsBegun (length c.args.map.now) (found_in c.args.map.now) new) (sym (ap (λ j. get_or (one ∷ []) j b) z) ∙ n.2) e.begun)
           (Contains-append_cases items (one ∷ []) b (subst (λ l. Contains l b) put h));
       taken = i.taken ∙ ap (λ (m : Marking). with_stack m (m.stack ++ entries_begun items)) e.taken
           ∙ ap (λ l. with_stack new l) (append_assoc new.stack (entry_begun one ∷ []) (entries_begun items) ∙ ap (λ l. new.stack ++ l) (sym (entries_push items one) ∙ ap entries_begun (sym put)));
       known = from_more (found_in c.args.map.now) c.loop.self new c.args.known new.stack (λ k has. subst (λ r. Has r (granule k)) marks has)
           (from_first (found_in c.args.map.now) c.loop.self c.args.known new.stack (entry_begun one ∷ []) (subst (AreUnreadFrom (found_in c.args.map.now) c.loop.self c.args.known) (ap (λ (m : Marking). m.stack) e.taken) i.known));
-      left = (let w = ap words_begun put ∙ words_push items one in let l = e.len in let f = c.from-left.ensures in let m = c.if-not-is_short.ensures.most refl in let k = i.left in omega arith);
-      words = e.words ∙ i.words;
-      moments = e.moments ∙ i.moments;
-      reads = (let n = ap length put ∙ length_push items one in let r = e.reads in let k = i.reads in omega arith);
+      left = (let w = ap words_begun put ∙ words_push items one in let l = e.len in let f = c.from-left.ensures in let k = i.left in omega arith);
     }

@@ -1,4 +1,4 @@
-use Rattle.std.proofs.Common.{◌≡◌, ◌+◌, ◌*◌, ◌++◌, length}
+use Rattle.std.proofs.Common.{◌≡◌, ◌+◌, ◌++◌, length}
 use Rattle.block_map.specs.FoundIn.{found_in}
 use Rattle.marker.specs.Marking.{with_stack}
 use Rattle.marker.specs.Entries.{AreUnreadFrom}
@@ -8,11 +8,8 @@ use Rattle.marker.proofs.marker.Marker.begin_objects.Given as goal
 abbrev pub invariant-loop : goal.invariant-loop
 invariant-loop l = record {
   count : length l.begun.items ≡ l.counter;
-  begun : AreBegun (length l.map) (found_in l.map) l.initial.reader.moments l.self l.begun.items;
+  begun : AreBegun (length l.map) (found_in l.map) l.self l.begun.items;
   taken : l.initial.self ≡ with_stack l.self (l.self.stack ++ entries_begun l.begun.items);
   known : AreUnreadFrom (found_in l.map) l.self l.known l.self.stack;
   left : words_begun l.begun.items + l.left ≡ l.most;
-  words : l.reader.words ≡ l.initial.reader.words;
-  moments : l.reader.moments ≡ l.initial.reader.moments;
-  reads : l.reader.reads ≡ l.initial.reader.reads + 2 * length l.begun.items;
 }
