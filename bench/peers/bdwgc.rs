@@ -73,11 +73,12 @@ impl Heap for Bdwgc {
         }
     }
 
-    fn collect_new(&mut self) {
+    fn collect_new(&mut self) -> u64 {
         unsafe {
             let before = GC_get_gc_no();
             GC_start_incremental_collection();
             assert_eq!(GC_get_gc_no(), before + 1);
         }
+        0
     }
 }

@@ -43,8 +43,8 @@ pub trait Heap {
     /// From now on stores are told, so that a cycle can begin with the marks of the last one.
     fn keep_marks(&mut self) {}
 
-    /// A whole cycle at once that begins with the marks of the last one.
-    fn collect_new(&mut self) {
+    /// A whole cycle at once that begins with the marks of the last one; how many objects went, if the heap tells.
+    fn collect_new(&mut self) -> u64 {
         unreachable!()
     }
 }

@@ -121,9 +121,9 @@ impl Heap for Proved {
         self.keeps_marks = true;
     }
 
-    fn collect_new(&mut self) {
+    fn collect_new(&mut self) -> u64 {
         unsafe { done(mpheap_begin_partial(&mut self.heap)) }
-        self.finish();
+        self.finish()
     }
 }
 

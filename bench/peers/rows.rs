@@ -106,10 +106,9 @@ fn alloc_2_many<H: Heap>() -> (u64, u64) {
     (cost, units)
 }
 
-// 1 to 40 words, a third of them pointer-free, of which 12 are kept at a time, beside a tree that stays. Where there is no room, a cycle
-// makes some.
-fn alloc_1_to_40<H: Heap>(pages: u32, live: u64) -> (u64, u64) {
-    let mut heap = H::open(pages);
+// 1 to 40 words, a third of them pointer-free, of which 12 are kept at a time, beside a tree that stays. Where there is no room, some is
+// made.
+fn alloc_1_to_40<H: Heap>(mut heap: H, live: u64, mut make_room: impl FnMut(&mut H)) -> (u64, u64) {
     tree(&mut heap, live);
     let mut random = Random(1);
     let units = 1_000_000;
@@ -117,12 +116,32 @@ fn alloc_1_to_40<H: Heap>(pages: u32, live: u64) -> (u64, u64) {
         for i in 0..units {
             let (root, words, pointer_free) = (1 + i as usize % 12, 1 + random.below(40), random.below(3) == 0);
             if heap.alloc(root, words, pointer_free) == 0 {
-                cycle(&mut heap);
+                make_room(&mut heap);
                 heap.alloc(root, words, pointer_free);
             }
         }
     });
     (cost, units)
+}
+
+// Room is made by whole cycles.
+fn alloc_with_cycles<H: Heap>(pages: u32, live: u64) -> (u64, u64) {
+    alloc_1_to_40(H::open(pages), live, |heap| _ = cycle(heap))
+}
+
+// Room is made by cycles that begin with the marks of the last one, as long as these free half as many objects as the last whole one did. A
+// heap that collects when it wants to does as without that.
+fn alloc_with_partial_cycles<H: Heap>(pages: u32, live: u64) -> (u64, u64) {
+    let mut heap = H::open(pages);
+    if H::HAS_CYCLES {
+        heap.keep_marks();
+    }
+    let mut by_whole = u64::MAX;
+    alloc_1_to_40(heap, live, |heap| {
+        if heap.collect_new() < by_whole / 2 {
+            by_whole = cycle(heap);
+        }
+    })
 }
 
 // A heap full of objects of two words of which one in eight stays, collected and filled again: an object, all in all.
@@ -265,8 +284,8 @@ fn collect_beside_new<H: Heap>(is_partial: bool) -> Option<(u64, u64)> {
             }
             match is_partial {
                 true => heap.collect_new(),
-                false => _ = heap.collect(),
-            }
+                false => heap.collect(),
+            };
         }
     });
     let mut there = 0;
@@ -282,12 +301,13 @@ pub fn run<H: Heap>(row: &str) -> Option<(u64, u64)> {
     match row {
         "alloc_2" => Some(alloc_2::<H>()),
         "alloc_2_many" => Some(alloc_2_many::<H>()),
-        "alloc_1_to_40" => Some(alloc_1_to_40::<H>(PAGES, 1)),
-        "alloc_on_64" => Some(alloc_1_to_40::<H>(64, 2_500)),
-        "alloc_as_large" => Some(alloc_1_to_40::<H>(471, 2_500)),
-        "alloc_on_256" => Some(alloc_1_to_40::<H>(256, 10_000)),
-        "alloc_on_1024" => Some(alloc_1_to_40::<H>(1_024, 40_000)),
-        "alloc_on_4096" => Some(alloc_1_to_40::<H>(4_096, 160_000)),
+        "alloc_1_to_40" => Some(alloc_with_cycles::<H>(PAGES, 1)),
+        "alloc_on_64" => Some(alloc_with_cycles::<H>(64, 2_500)),
+        "alloc_on_64_partial" if H::HAS_PARTIAL => Some(alloc_with_partial_cycles::<H>(64, 2_500)),
+        "alloc_as_large" => Some(alloc_with_cycles::<H>(471, 2_500)),
+        "alloc_on_256" => Some(alloc_with_cycles::<H>(256, 10_000)),
+        "alloc_on_1024" => Some(alloc_with_cycles::<H>(1_024, 40_000)),
+        "alloc_on_4096" => Some(alloc_with_cycles::<H>(4_096, 160_000)),
         "refill" => Some(refill::<H>()),
         "full" => full::<H>(),
         "begin_pending" => begin_pending::<H>(),
