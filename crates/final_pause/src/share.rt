@@ -69,7 +69,7 @@ impl<'a> Pause<'a> {
     }
 
     // Marks an object. Where this helper is the first to, it is its own to read.
-    #[inline]
+    #[inline(always)]
     fn mark<G: Gate>(&self, gate: &G, helper: &mut Helper, found: Found, may_wait: bool)
         requires helper { IsHelperOf (pause_view self.now) helper.old }
         requires object { found_in self.now.map.now found.base ≡ Some found }

@@ -17,7 +17,7 @@ use words::limits::MARK_STACK_ENTRIES;
 const ENTRIES: usize = MARK_STACK_ENTRIES as usize;
 
 // So many are looked at together.
-const AHEAD: usize = 32;
+const AHEAD: usize = 16;
 
 /// An object that waits to be read: its base, and how many words it has.
 #[derive(Clone, Copy, Debug, Default)]

@@ -19,7 +19,7 @@ use pages::Reader;
 use words::limits::PAGE_WORDS;
 
 // So many objects at most are read together.
-pub(crate) const TOGETHER: usize = 32;
+pub(crate) const TOGETHER: usize = 16;
 
 /// An object whose entry was taken off the stack: its base, and how many words it has, all of which are to be read.
 #[derive(Clone, Copy, Debug, Default)]

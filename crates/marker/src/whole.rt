@@ -10,7 +10,6 @@ ghost use Rattle.marker.specs.Entries.{IsOnTop, AreUnreadFrom, TakesWhole};
 use crate::entry::Entry;
 use crate::marker::Marker;
 use crate::stack::ENTRIES;
-use crate::together::TOGETHER;
 use block_map::BlockMap;
 use pages::Reader;
 use words::limits::{PAGE_BYTES, WORD_BYTES};
@@ -19,8 +18,8 @@ use words::limits::{PAGE_BYTES, WORD_BYTES};
 // saves.
 const WIDE: usize = 4;
 
-// Where fewer entries are free, they are read one by one: objects that are read together may push one for each of their words.
-const CROWDED: usize = ENTRIES - 4 * TOGETHER;
+// Where more wait, objects are read one by one, which needs less of the stack.
+const CROWDED: usize = ENTRIES - ENTRIES / 8;
 
 // Whether so many words from a base on stand on one page.
 #[inline]
