@@ -129,18 +129,17 @@ fn alloc_with_cycles<H: Heap>(pages: u32, live: u64) -> (u64, u64) {
     alloc_1_to_40(H::open(pages), live, |heap| _ = cycle(heap))
 }
 
-// Room is made by cycles that begin with the marks of the last one, as long as these free half as many objects as the last whole one did. A
+// Room is made by a whole cycle, and then by cycles that begin with the marks of the last one as long as these free half as many objects. A
 // heap that collects when it wants to does as without that.
 fn alloc_with_partial_cycles<H: Heap>(pages: u32, live: u64) -> (u64, u64) {
     let mut heap = H::open(pages);
     if H::HAS_CYCLES {
         heap.keep_marks();
     }
-    let mut by_whole = u64::MAX;
-    alloc_1_to_40(heap, live, |heap| {
-        if heap.collect_new() < by_whole / 2 {
-            by_whole = cycle(heap);
-        }
+    let mut by_whole = None;
+    alloc_1_to_40(heap, live, |heap| match by_whole {
+        Some(most) if heap.collect_new() >= most / 2 => {}
+        _ => by_whole = Some(cycle(heap)),
     })
 }
 
