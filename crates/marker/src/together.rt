@@ -1,14 +1,16 @@
-//! Objects that are read together: a word of each is looked at before the first of them is read. So the processor fetches all of these
-//! words at once, where it would wait for those of one object after the other. Nothing else stands between these looks, and each word
-//! that is looked at is read.
-ghost use Rattle.std.specs.Prelude.{◌≡◌, ℕ, ◌+◌, ◌*◌, ◌≤◌, ◌++◌, ◌∷◌, [], length, Contains};
+//! Objects that are begun together: the first word of each is read before one of them is read on. So the processor fetches all of these
+//! words at once, where it would wait for those of one object after the other. Nothing else stands between these reads.
+ghost use Rattle.std.specs.Prelude.{◌≡◌, ℕ, ◌+◌, ◌*◌, ◌≤◌, ◌++◌, ◌∷◌, [], length, Some, Contains};
 ghost use Rattle.words.specs.declared.limits.TheConstants.{MARK_STACK_ENTRIES, PAGE_BYTES, PAGE_WORDS};
+ghost use Rattle.words.specs.Layout.{page_of};
 ghost use Rattle.pages.specs.Memory.{IsWordAddress};
+ghost use Rattle.block_map.specs.declared.found.Found.{Found};
 ghost use Rattle.block_map.specs.FoundIn.{found_in, IsLawful};
 ghost use Rattle.marker.specs.declared.together.Begun.{Begun as BegunValue};
-ghost use Rattle.marker.specs.Marking.{with_stack, AreMarksObjects};
+ghost use Rattle.marker.specs.Marking.{with_stack, word_address, AreMarksObjects};
+ghost use Rattle.marker.specs.Beside.{MarksRow};
 ghost use Rattle.marker.specs.Entries.{IsOnTop, AreUnreadFrom, TakesWhole};
-ghost use Rattle.marker.specs.Begun.{IsBegun, AreBegun, entry_begun, entries_begun, words_begun};
+ghost use Rattle.marker.specs.Begun.{IsBegun, IsSeen, AreBegun, AreFirsts, entry_begun, entries_begun, words_begun};
 
 use crate::entry::Entry;
 use crate::marker::Marker;
@@ -16,9 +18,9 @@ use crate::stack::ENTRIES;
 use arrayvec::ArrayVec;
 use block_map::BlockMap;
 use pages::Reader;
-use words::limits::PAGE_WORDS;
+use words::limits::{PAGE_WORDS, WORD_BYTES};
 
-// So many objects at most are read together.
+// So many objects at most are begun together.
 pub(crate) const TOGETHER: usize = 16;
 
 /// An object whose entry was taken off the stack: its base, and how many words it has, all of which are to be read.
@@ -28,15 +30,20 @@ pub(crate) struct Begun {
     len: u32,
 }
 
-// Looks at the first words of begun objects.
+// The first words of begun objects.
 #[inline]
-fn look_at(reader: &mut Reader, begun: &ArrayVec<Begun, TOGETHER>)
+fn read_firsts(reader: &mut Reader, begun: &ArrayVec<Begun, TOGETHER>) -> ArrayVec<u64, TOGETHER>
     requires { (b : BegunValue) → Contains begun.now.items b → IsWordAddress reader.old.words b.base }
-    ensures { reader.new ≡ reader.old }
+    ensures firsts { AreFirsts reader.old.moments begun.now.items result.items }
+    ensures words { reader.new.words ≡ reader.old.words }
+    ensures moments { reader.new.moments ≡ reader.old.moments }
+    ensures reads { reader.new.reads ≡ reader.old.reads + length begun.now.items }
 {
+    let mut firsts = ArrayVec::new();
     for k in 0..begun.len() {
-        reader.look(begun[k].base);
+        firsts.push(reader.read(begun[k].base));
     }
+    firsts
 }
 
 impl Marker {
@@ -89,14 +96,50 @@ impl Marker {
         }
     }
 
-    // Reads begun objects, where the stack has room for all that they may lead to. Answers how many words they have.
+    // Marks what the words of a begun object point into, of which the first was read. Its page is carried if one of them is stray.
     #[inline]
-    fn read_begun(
+    fn mark_begun(
+        &mut self,
+        map: &BlockMap,
+        heap_bytes: u64,
+        reader: &mut Reader,
+        begun: Begun,
+        first: u64,
+    )
+        requires pages { length self.old.dirty ≡ length map.now }
+        requires objects { AreMarksObjects (found_in map.now) self.old }
+        requires lawful { IsLawful map.now }
+        requires bytes { heap_bytes ≡ PAGE_BYTES * length map.now }
+        requires memory { length reader.old.words ≡ PAGE_WORDS * length map.now }
+        requires begun { IsBegun (length map.now) (found_in map.now) self.old begun }
+        requires first { IsSeen reader.old.moments begun.base first }
+        ensures row { (f : Found) → found_in map.now begun.base ≡ Some f → f.base ≡ begun.base → MarksRow (found_in map.now) reader.old.moments f 0 f.len (PAGE_BYTES * length map.now) (page_of (word_address f 0)) self.old self.new }
+        ensures words { reader.new.words ≡ reader.old.words }
+        ensures moments { reader.new.moments ≡ reader.old.moments }
+        ensures reads { reader.new.reads + 1 ≡ reader.old.reads + begun.len }
+        ensures objects { AreMarksObjects (found_in map.now) self.new }
+    {
+        self.laws();
+        reader.laws();
+        let others = u64::from(begun.len) - 1;
+        let is_stray = self.mark_word(map, heap_bytes, first, false);
+        let words = reader.read_run(begun.base + WORD_BYTES, others);
+        let rest = self.mark_all(map, heap_bytes, words, false);
+        if is_stray | rest {
+            self.carry(begun.base);
+        }
+    }
+
+    // Reads begun objects to their ends, of which the first words were read, where the stack has room for all that they may lead to.
+    // Answers how many words they have.
+    #[inline]
+    fn finish_objects(
         &mut self,
         map: &BlockMap,
         heap_bytes: u64,
         reader: &mut Reader,
         begun: &ArrayVec<Begun, TOGETHER>,
+        firsts: &ArrayVec<u64, TOGETHER>,
     ) -> u64
         requires pages { length self.old.dirty ≡ length map.now }
         requires objects { AreMarksObjects (found_in map.now) self.old }
@@ -104,27 +147,27 @@ impl Marker {
         requires bytes { heap_bytes ≡ PAGE_BYTES * length map.now }
         requires memory { length reader.old.words ≡ PAGE_WORDS * length map.now }
         requires begun { AreBegun (length map.now) (found_in map.now) self.old begun.now.items }
+        requires firsts { AreFirsts reader.old.moments begun.now.items firsts.now.items }
         requires room { length self.old.stack + length begun.now.items + words_begun begun.now.items ≤ MARK_STACK_ENTRIES }
         ensures takes { TakesWhole (found_in map.now) reader.old.moments (with_stack self.old (self.old.stack ++ entries_begun begun.now.items)) result self.new }
         ensures known { (n : ℕ) → AreUnreadFrom (found_in map.now) self.old n self.old.stack → AreUnreadFrom (found_in map.now) self.new n self.new.stack }
         ensures all { result ≡ words_begun begun.now.items }
         ensures words { reader.new.words ≡ reader.old.words }
         ensures moments { reader.new.moments ≡ reader.old.moments }
-        ensures reads { reader.new.reads ≡ reader.old.reads + result }
+        ensures reads { reader.new.reads + length begun.now.items ≡ reader.old.reads + result }
         ensures objects { AreMarksObjects (found_in map.now) self.new }
     {
         self.laws();
         let mut read = 0;
         for k in 0..begun.len() {
-            let Begun { base, len } = begun[k];
-            let count = u64::from(len);
-            self.mark_words(map, heap_bytes, reader, base, 0, count, false);
-            read += count;
+            let one = begun[k];
+            self.mark_begun(map, heap_bytes, reader, one, firsts[k]);
+            read += u64::from(one.len);
         }
         read
     }
 
-    // Reads objects whole, of which each was looked at before: those of the entries on top of the stack, while these are known to have
+    // Reads objects whole that are begun together: those of the entries on top of the stack, while these are known to have
     // words, at most so many words, and only as many as the stack has room for what they may lead to. Answers how many words. It is
     // no part of its caller, which has lists to follow that have one entry.
     #[inline(never)]
@@ -154,7 +197,7 @@ impl Marker {
         let room = (ENTRIES - self.depth()) as u64;
         let mut begun = ArrayVec::new();
         self.begin_objects(map, known, most.min(PAGE_WORDS).min(room), &mut begun);
-        look_at(reader, &begun);
-        self.read_begun(map, heap_bytes, reader, &begun)
+        let firsts = read_firsts(reader, &begun);
+        self.finish_objects(map, heap_bytes, reader, &begun, &firsts)
     }
 }

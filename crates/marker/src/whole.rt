@@ -14,7 +14,7 @@ use block_map::BlockMap;
 use pages::Reader;
 use words::limits::{PAGE_BYTES, WORD_BYTES};
 
-// Objects are read together where so many wait that are known to have words. Where fewer do, as along a list, that would cost more than it
+// Objects are begun together where so many wait that are known to have words. Where fewer do, as along a list, that would cost more than it
 // saves.
 const WIDE: usize = 4;
 
@@ -122,7 +122,7 @@ impl Marker {
         true
     }
 
-    // The same where not so few wait: several objects are read together where there is room for what they may lead to, and none where
+    // The same where not so few wait: several objects are begun together where there is room for what they may lead to, and none where
     // none is known. Answers how many words were read. It is no part of its caller, whose loop is for few.
     #[inline(never)]
     fn read_many(

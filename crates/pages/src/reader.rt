@@ -18,7 +18,6 @@ pub struct Reader<'a> {
     memory: &'a Memory,
     moments: Moments,
     count: Count,
-    seen: u64,
 }
 
 impl<'a> Model for Reader<'a> {
@@ -42,7 +41,6 @@ impl<'a> Reader<'a> {
             memory,
             moments: Moments::still(memory),
             count: Count::zero(),
-            seen: 0,
         }
     }
 
@@ -57,7 +55,6 @@ impl<'a> Reader<'a> {
             memory,
             moments,
             count: Count::zero(),
-            seen: 0,
         }
     }
 
@@ -92,16 +89,6 @@ impl<'a> Reader<'a> {
         self.memory.read(address)
     }
 
-    /// Has the processor fetch a word that will be read. Nobody is given it here, and it is counted when it is read. What was fetched
-    /// is kept, so that no compiler leaves this out.
-    #[inline]
-    pub fn look(&mut self, address: u64)
-        requires { IsWordAddress self.old.words address }
-        ensures { self.new ≡ self.old }
-    {
-        self.seen ^= self.memory.read(address);
-    }
-
     /// So many words, from an address on, each of them to be had once, as it was at one of the moments. All are counted
     /// here, by a loop that has no code.
     #[inline]
@@ -129,7 +116,6 @@ impl<'a> Reader<'a> {
             memory: _,
             moments: _,
             count,
-            seen: _,
         } = self;
         reads.add(count);
     }
@@ -141,7 +127,6 @@ impl<'a> Reader<'a> {
             memory: _,
             moments: _,
             count: _,
-            seen: _,
         } = self;
     }
 }

@@ -6,7 +6,7 @@ use Rattle.marker.specs.declared.entry.Entry.{Entry}
 use Rattle.marker.specs.Marking.{with_stack, AreMarksObjects}
 use Rattle.marker.specs.Entries.{AreUnreadFrom, TakesWhole}
 use Rattle.marker.specs.Begun.{AreBegun, entries_begun, words_begun}
-use Rattle.marker.proofs.marker.Marker.read_begun.Given as goal
+use Rattle.marker.proofs.marker.Marker.finish_objects.Given as goal
 
 abbrev pub invariant-loop-k : goal.invariant-loop-k
 invariant-loop-k l = record {
@@ -19,6 +19,6 @@ invariant-loop-k l = record {
   known : (n : ℕ) → AreUnreadFrom (found_in l.map) l.initial.self n l.initial.self.stack → AreUnreadFrom (found_in l.map) l.self n l.self.stack;
   words : l.reader.words ≡ l.initial.reader.words;
   moments : l.reader.moments ≡ l.initial.reader.moments;
-  reads : l.reader.reads ≡ l.initial.reader.reads + l.read;
+  reads : l.reader.reads + l.k ≡ l.initial.reader.reads + l.read;
   objects : AreMarksObjects (found_in l.map) l.self;
 }

@@ -14,12 +14,12 @@ use Rattle.marker.specs.Beside.{MarksRow}
 use Rattle.marker.specs.Growth.{entry_of}
 use Rattle.marker.specs.Entries.{IsUnread, TakesWhole}
 use Rattle.marker.specs.Begun.{IsBegun, entry_begun, entries_begun, words_begun}
-use Rattle.marker.proofs.Beginning.{begun_row, entries_first, entries_none, words_first}
+use Rattle.marker.proofs.Beginning.{entries_first, entries_none, words_first}
 use Rattle.marker.proofs.Closures.{marks_of}
 use Rattle.marker.proofs.Finishing.{begun_more, finished_known, finished_marks, finished_sizes, finished_few, finished_stack, finished_takes, next}
 use Rattle.marker.proofs.Wholes.{whole_none}
-use Rattle.marker.proofs.marker.Marker.read_begun.Goals as goal
-use Rattle.marker.proofs.marker.Marker.read_begun.Goals.{After-mark_words}
+use Rattle.marker.proofs.marker.Marker.finish_objects.Goals as goal
+use Rattle.marker.proofs.marker.Marker.finish_objects.Goals.{After-from-read}
 
 pub loop-k-init : goal.loop-k-init
 loop-k-init c =
@@ -38,56 +38,59 @@ loop-k-init c =
       objects = c.requires.objects;
     }
 
-pub mark_words-requires-clause-row : goal.mark_words-requires-clause-row
-mark_words-requires-clause-row c =
+pub mark_begun-requires-clause-begun : goal.mark_begun-requires-clause-begun
+mark_begun-requires-clause-begun c =
     let inside : c.loop-k.k < length c.args.begun.now.items = (let t = c.loop-k-test.true in let n = c.len-k-end.ensures.value in omega arith) in
-    rw (c.from-count.ensures, c.deref.ensures.0)
-    (begun_row (length c.args.map.now) (found_in c.args.map.now) c.loop-k.self _ (c.loop-k.invariant.begun _ (Contains-get_or c.args.begun.now.items c.loop-k.k (record { base = 0; len = 0 }) inside)))
+    rw (c.deref.ensures.0) (c.loop-k.invariant.begun _ (Contains-get_or c.args.begun.now.items c.loop-k.k (record { base = 0; len = 0 }) inside))
+
+pub mark_begun-requires-clause-first : goal.mark_begun-requires-clause-first
+mark_begun-requires-clause-first c =
+    let inside : c.loop-k.k < length c.args.begun.now.items = (let t = c.loop-k-test.true in let n = c.len-k-end.ensures.value in omega arith) in
+    rw (c.deref-in-loop-k.ensures.0, c.deref.ensures.0, c.loop-k.invariant.moments) (c.requires.firsts.each c.loop-k.k inside)
 
 -- the object that is read to its end
-abbrev one : After-mark_words → Begun
+abbrev one : After-from-read → Begun
 one c = get_or c.args.begun.now.items c.loop-k.k (record { base = 0; len = 0 })
 
-abbrev others : After-mark_words → List Begun
+abbrev others : After-from-read → List Begun
 others c = drop (c.loop-k.k + 1) c.args.begun.now.items
 
-inside : (c : After-mark_words) → c.loop-k.k < length c.args.begun.now.items
+inside : (c : After-from-read) → c.loop-k.k < length c.args.begun.now.items
 inside c = let t = c.loop-k-test.true in let n = c.len-k-end.ensures.value in omega arith
 
-is_begun : (c : After-mark_words) → IsBegun (length c.args.map.now) (found_in c.args.map.now) c.loop-k.self (one c)
+is_begun : (c : After-from-read) → IsBegun (length c.args.map.now) (found_in c.args.map.now) c.loop-k.self (one c)
 is_begun c = c.loop-k.invariant.begun (one c) (Contains-get_or c.args.begun.now.items c.loop-k.k _ (inside c))
 
 -- it and the others were left
-left : (c : After-mark_words) → drop c.loop-k.k c.args.begun.now.items ≡ one c ∷ others c
+left : (c : After-from-read) → drop c.loop-k.k c.args.begun.now.items ≡ one c ∷ others c
 left c = drop_more c.args.begun.now.items c.loop-k.k _ (inside c)
 
-abbrev object : After-mark_words → Found
+abbrev object : After-from-read → Found
 object c = (is_begun c).object
 
-entry_is : (c : After-mark_words) → entry_begun (one c) ≡ entry_of (object c)
+entry_is : (c : After-from-read) → entry_begun (one c) ≡ entry_of (object c)
 entry_is c = λ i. record { base = sym (is_begun c).unread.base i; next = 0; len = (is_begun c).len i }
 
-row : (c : After-mark_words) → MarksRow (found_in c.args.map.now) c.args.reader.now.moments (object c) 0 (object c).len (bytes_of c.loop-k.self) (page_of (word_address (object c) 0)) c.loop-k.self c.mark_words.new.self
+row : (c : After-from-read) → MarksRow (found_in c.args.map.now) c.args.reader.now.moments (object c) 0 (object c).len (bytes_of c.loop-k.self) (page_of (word_address (object c) 0)) c.loop-k.self c.mark_begun.new.self
 row c =
     let i = is_begun c in
     let same = ap (λ (l : List Begun). get_or l c.loop-k.k (record { base = 0; len = 0 })) c.deref.ensures.0 in
     let base = i.unread.base ∙ sym (ap (λ (b : Begun). b.base) same) in
-    let count = c.from-count.ensures ∙ ap (λ (b : Begun). b.len) same ∙ i.len in
-    subst (λ (n : ℕ). MarksRow (found_in c.args.map.now) c.args.reader.now.moments i.object 0 i.object.len (PAGE_BYTES * n) (page_of (word_address i.object 0)) c.loop-k.self c.mark_words.new.self) (sym c.loop-k.invariant.pages)
-    (subst (λ (w : List (List ℕ)). MarksRow (found_in c.args.map.now) w i.object 0 i.object.len (PAGE_BYTES * length c.args.map.now) (page_of (word_address i.object 0)) c.loop-k.self c.mark_words.new.self) c.loop-k.invariant.moments
-    (subst (λ (n : ℕ). MarksRow (found_in c.args.map.now) c.loop-k.reader.moments i.object 0 n (PAGE_BYTES * length c.args.map.now) (page_of (word_address i.object 0)) c.loop-k.self c.mark_words.new.self) count (c.mark_words.ensures.row i.object base)))
+    subst (λ (n : ℕ). MarksRow (found_in c.args.map.now) c.args.reader.now.moments i.object 0 i.object.len (PAGE_BYTES * n) (page_of (word_address i.object 0)) c.loop-k.self c.mark_begun.new.self) (sym c.loop-k.invariant.pages)
+    (subst (λ (w : List (List ℕ)). MarksRow (found_in c.args.map.now) w i.object 0 i.object.len (PAGE_BYTES * length c.args.map.now) (page_of (word_address i.object 0)) c.loop-k.self c.mark_begun.new.self) c.loop-k.invariant.moments
+    (c.mark_begun.ensures.row i.object (ap (found_in c.args.map.now) (sym base) ∙ i.unread.object) base))
 
-entries_are : (c : After-mark_words) → entries_begun (drop c.loop-k.k c.args.begun.now.items) ≡ entries_begun (others c) ++ entry_of (object c) ∷ []
+entries_are : (c : After-from-read) → entries_begun (drop c.loop-k.k c.args.begun.now.items) ≡ entries_begun (others c) ++ entry_of (object c) ∷ []
 entries_are c = ap entries_begun (left c) ∙ entries_first (others c) (one c) ∙ ap (λ e. entries_begun (others c) ++ e ∷ []) (entry_is c)
 
 -- the others wait behind what was there, below what it leads to
-abbrev waiting : After-mark_words → List Entry
+abbrev waiting : After-from-read → List Entry
 waiting c = entries_begun (others c)
 
-many : (c : After-mark_words) → length (waiting c) ≡ length (others c)
+many : (c : After-from-read) → length (waiting c) ≡ length (others c)
 many c = length-reverse (map entry_begun (others c)) ∙ length-map (others c) entry_begun
 
-room : (c : After-mark_words) → length c.loop-k.self.stack + length (waiting c) + (object c).len ≤ MARK_STACK_ENTRIES
+room : (c : After-from-read) → length c.loop-k.self.stack + length (waiting c) + (object c).len ≤ MARK_STACK_ENTRIES
 room c =
     let len = (is_begun c).len in
     let words = ap words_begun (left c) ∙ words_first (others c) (one c) in
@@ -96,7 +99,7 @@ room c =
     let before = c.loop-k.invariant.room in
     omega arith
 
-unread : (c : After-mark_words) → IsUnread (found_in c.args.map.now) c.loop-k.self (entry_of (object c)) (object c)
+unread : (c : After-from-read) → IsUnread (found_in c.args.map.now) c.loop-k.self (entry_of (object c)) (object c)
 unread c = subst (λ e. IsUnread (found_in c.args.map.now) c.loop-k.self e (object c)) (entry_is c) (is_begun c).unread
 
 pub loop-k-preserved : goal.loop-k-preserved
@@ -106,7 +109,7 @@ loop-k-preserved c =
     let map_is = c.requires.lawful.map in
     let moments = c.args.reader.now.moments in
     let i = c.loop-k.invariant in
-    let a = c.loop-k.self in let b = c.mark_words.new.self in
+    let a = c.loop-k.self in let b = c.mark_begun.new.self in
     let o = is_begun c in
     let f : Found = object c in
     let len = o.len in
@@ -114,7 +117,7 @@ loop-k-preserved c =
     let u = unread c in
     let start = c.args.self.now.stack in
     let upper = i.takes.0 in let is = i.takes.1 in
-    let read = c.from-count.ensures in
+    let read = c.from-read.ensures in
     let same = ap (λ (l : List Begun). (get_or l c.loop-k.k (record { base = 0; len = 0 })).len) c.deref.ensures.0 in
     let words = ap words_begun (left c) ∙ words_first (others c) (one c) in
     let count : length (drop c.loop-k.k c.args.begun.now.items) ≡ 1 + length (others c) = ap length (left c) ∙ (let n : length (one c ∷ others c) ≡ 1 + length (others c) = omega arith in n) in
@@ -122,13 +125,13 @@ loop-k-preserved c =
     let more = finished_takes pages found map_is moments f a b i.size x u o.one_page start (waiting c) upper is (room c) (with_stack c.args.self.now (start ++ entries_begun c.args.begun.now.items)) c.loop-k.read takes in
     let sizes = finished_sizes pages found map_is moments f a b i.size x u o.one_page in
     let few = finished_few pages found map_is moments f a b i.size x u o.one_page start (waiting c) upper is (room c) in
-    let e = c.mark_words.ensures in
+    let e = c.mark_begun.ensures in
     record {
       takes = (
         next pages found map_is moments f a b i.size x u o.one_page start (waiting c) upper is (room c),
         finished_stack pages found map_is moments f a b i.size x u o.one_page start (waiting c) upper is (room c),
         subst (λ (n : ℕ). TakesWhole found moments (with_stack c.args.self.now (start ++ entries_begun c.args.begun.now.items)) n (with_stack b (start ++ waiting c ++ next pages found map_is moments f a b i.size x u o.one_page start (waiting c) upper is (room c))))
-            (let n : c.loop-k.read + f.len ≡ c.loop-k.read + c.from-count.result = omega arith in n) more,
+            (let n : c.loop-k.read + f.len ≡ c.loop-k.read + c.from-read.result = omega arith in n) more,
       );
       begun = begun_more pages found a b (finished_marks pages found map_is moments f a b i.size x u o.one_page) c.args.begun.now.items i.begun;
       pages = sizes.1 ∙ i.pages;
@@ -138,7 +141,7 @@ loop-k-preserved c =
       known = λ n k. finished_known pages found map_is moments f a b i.size x u o.one_page n (i.known n k);
       words = e.words ∙ i.words;
       moments = e.moments ∙ i.moments;
-      reads = (let r = e.counted in let k = i.reads in omega arith);
+      reads = (let r = e.reads in let k = i.reads in omega arith);
       objects = e.objects;
     }
 
