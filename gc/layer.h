@@ -1,7 +1,7 @@
 // What the audited files of libmpgc know of each other. x86-64, Linux, the GNU C library. Trusted, and not proved.
 //
 // Below them stands the proved heap of mpheap_c, above them a C program that knows bdwgc's gc.h, and may do what it likes. The proofs hold
-// for the program as far as these files keep what mpheap.h asks of a caller. They alone could lose an object or break memory: 3,588 lines
+// for the program as far as these files keep what mpheap.h asks of a caller. They alone could lose an object or break memory: 3,617 lines
 // of code in this folder, without blank ones and comments. Why names/ and kernel/ can't is said in front.h. This is all that they owe, in
 // the order in which they are best read, and the head of each says by which lines it pays:
 //
@@ -233,6 +233,7 @@ static inline void mpgc_call_ends(void)
 // requests.c and runs.c
 HIDDEN void mpgc_free_in(uint64_t base);
 HIDDEN uint8_t mpgc_size_for(size_t granules);
+HIDDEN size_t mpgc_least_words(size_t words);
 HIDDEN bool mpgc_fill_run(struct run *run, size_t granules, enum page_kind kind);
 HIDDEN void mpgc_empty_runs(struct thread *thread);
 HIDDEN void mpgc_push_runs(const struct thread *thread, void (*push)(uint64_t word));
@@ -315,6 +316,7 @@ HIDDEN void mpgc_drop_described(void);
 
 // Counted under the rest.
 // pages.c
+HIDDEN bool mpgc_may_have(size_t pages);
 HIDDEN bool mpgc_learn(uintptr_t base, size_t words, enum page_kind kind);
 HIDDEN void mpgc_set_uncollectable(uintptr_t base, bool on);
 

@@ -4,6 +4,8 @@
 // It rests on one fact of the core (heap_spec, Room): a page that holds objects holds objects of one kind.
 // Counted under the rest.
 #include "layer.h"
+#include <sys/resource.h>
+#include <sys/syscall.h>
 
 static size_t count[4];  // of pages of each kind, but fresh ones
 
@@ -58,10 +60,31 @@ bool mpgc_sweep_some(size_t pages)
     return swept == 1;
 }
 
+// So many pages a limit of the process leaves. The heap's addresses are there, so where the program has lowered one since, the kernel
+// refuses none of them.
+static size_t allowed(void)
+{
+    static const int limits[] = { RLIMIT_AS, RLIMIT_DATA };
+    size_t least = MAX_PAGES;
+    for (size_t k = 0; k < sizeof limits / sizeof *limits; k++) {
+        struct rlimit64 one;
+        if (mpgc_call_kernel(SYS_prlimit64, 0, limits[k], NULL, &one) == 0 && one.rlim_cur / PAGE < least) least = one.rlim_cur / PAGE;
+    }
+    return least;
+}
+
+// Whether the heap may have so many pages. The kernel is asked once for each block of them.
+bool mpgc_may_have(size_t pages)
+{
+    if (pages <= mpgc.size) return true;
+    if (pages > mpgc.all || pages > mpgc_figures.limit) return false;
+    return pages / BLOCK == mpgc.size / BLOCK || pages <= allowed();
+}
+
 // The heap has at least so many pages from now on, if it may.
 bool mpgc_grow(size_t pages)
 {
-    if (pages > mpgc.all || pages > mpgc_figures.limit) return false;
+    if (!mpgc_may_have(pages)) return false;
     if (pages <= mpgc.size) return true;
     __atomic_store_n(&mpgc.size, pages, __ATOMIC_RELAXED);
     if (GC_on_heap_resize) GC_on_heap_resize(pages * PAGE);

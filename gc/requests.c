@@ -37,16 +37,23 @@ void mpgc_free_in(uint64_t base)
 
 static size_t granules_of(size_t words) { return (words + GRANULE / WORD - 1) / (GRANULE / WORD); }
 
+static size_t pages_of(size_t words) { return (words + PAGE / WORD - 1) / (PAGE / WORD); }
+
+// Where an object lies past what the heap may use, the core has cleared it by the time that this is seen. So a large one that has no room
+// at all isn't asked for: it would take the machine's memory.
+static bool may_fit(size_t pages) { return pages < BLOCK || mpgc_may_have(mpgc_used_pages() + pages); }
+
 // An object of its own request, whose pages are known; 0 where there is no room.
 static uint64_t ask(size_t words, enum page_kind kind)
 {
     uint64_t base;
     uint32_t status;
+    size_t pages = pages_of(words);
+    if (!may_fit(pages)) return 0;
     CALL(status, kind == ORDINARY ? mpheap_alloc_base(&mpgc.heap, mpgc.slot, INTO, words, &base)
                                   : mpheap_alloc_pointer_free_base(&mpgc.heap, mpgc.slot, INTO, words, &base));
     if (status != MPHEAP_OK) return 0;
     size_t granules = granules_of(words);
-    size_t pages = (words + PAGE / WORD - 1) / (PAGE / WORD);
     memset(&mpgc.granules[mpgc_page_of(base)], granules > RUN_GRANULES ? 0 : mpgc_size_for(granules), pages);
     bool is_known = mpgc.kind[mpgc_page_of(base)] == kind && words <= PAGE / WORD;
     if (LIKELY(is_known) || mpgc_learn(base, words, kind)) return base;
@@ -76,13 +83,14 @@ __attribute__((always_inline)) static inline uint64_t next_of(struct run *run)
     return base;
 }
 
-// One object, of a run where it is small, and where the thread isn't about to change one; 0 where there is no room.
+// One object, of a run where it is small, and where the thread isn't about to change one; 0 where there is no room. A large one counts as the
+// pages that it takes, as it will when it is freed.
 static uint64_t take(size_t words, enum page_kind kind)
 {
     size_t granules = granules_of(words);
     if (granules > RUN_GRANULES || mpgc_self->takes_back) {
         uint64_t alone = ask(words, kind);
-        if (alone != 0) mpgc_figures.since += words;
+        if (alone != 0) mpgc_figures.since += granules > RUN_GRANULES ? pages_of(words) * (PAGE / WORD) : words;
         return alone;
     }
     struct run *run = mpgc_run_of(mpgc_self, granules, kind);
@@ -174,7 +182,7 @@ __attribute__((noinline)) static void free_by_core(uint64_t base)
         mpgc_forget_finalizer(base);
         mpgc_forget_described(base);
     }
-    mpgc_figures.freed += words;
+    mpgc_figures.freed += mpgc_least_words(words);
     if (mpgc_is_uncollectable(base)) mpgc_set_uncollectable(base, false);
     mpgc_free_in(base);
     mpgc_unlock();

@@ -28,6 +28,14 @@ const uint16_t mpgc_run_at[RUN_GRANULES + 1] = {
 // Of how many granules the core makes an object of so many.
 uint8_t mpgc_size_for(size_t granules) { return sizes[mpgc_run_at[granules] / sizeof(struct run)]; }
 
+// The fewest words by which an object of so many was asked for, if it is small: what counts as freed is no more than what counted as asked for.
+size_t mpgc_least_words(size_t words)
+{
+    if (words > RUN_GRANULES * (GRANULE / WORD)) return words;
+    size_t number = mpgc_run_at[words / (GRANULE / WORD)] / sizeof(struct run);
+    return number == 0 ? words : (size_t)(sizes[number - 1] + 1) * (GRANULE / WORD);
+}
+
 // No more than what may be asked for before the next look at what is due, but one.
 static size_t most_of(size_t words)
 {

@@ -180,6 +180,52 @@ static int leaves_some_space(void)
     return mmap(NULL, bytes / 4, PROT_READ, MAP_PRIVATE | MAP_ANONYMOUS, -1, 0) != MAP_FAILED ? 0 : 3;
 }
 
+/* What is refused isn't cleared first: it takes neither memory nor time. */
+static long resident(void)
+{
+    struct rusage used;
+    getrusage(RUSAGE_SELF, &used);
+    return used.ru_maxrss;
+}
+static int refuses_at_once(void)
+{
+    const size_t huge = (size_t)1500 * MEGABYTE;
+    GC_set_max_heap_size(64 * MEGABYTE);
+    GC_set_warn_proc(GC_ignore_warn_proc);
+    if (!GC_malloc(MEGABYTE)) return 1;
+    long before = resident();
+    if (GC_malloc(huge) || GC_malloc_atomic(huge) || GC_memalign(1 << 16, huge)) return 2;
+    return resident() - before < 100 * 1024 ? 0 : 3;
+}
+
+/* The program lowers what it may have itself, when the heap is there: the heap grows no further, by large objects or small ones, until it may
+ * again. */
+static size_t list_until_refused(void)
+{
+    void **list = NULL, **next;
+    size_t bytes = 0;
+    while (bytes < 400 * (size_t)MEGABYTE && (next = GC_malloc(1000))) {
+        next[0] = list;
+        list = next;
+        bytes += 1000;
+    }
+    return bytes;
+}
+static int is_held_to(int which)
+{
+    struct rlimit limit;
+    GC_set_warn_proc(GC_ignore_warn_proc);
+    if (!GC_malloc(MEGABYTE) || getrlimit(which, &limit) != 0) return 1;
+    struct rlimit lower = { 200 * (rlim_t)MEGABYTE, limit.rlim_max };
+    long before = resident();
+    if (setrlimit(which, &lower) != 0) return 2;
+    if (GC_malloc(300 * MEGABYTE) || resident() - before > 100 * 1024) return 3;
+    if (list_until_refused() > 200 * (size_t)MEGABYTE) return 4;
+    return setrlimit(which, &limit) == 0 && GC_malloc(300 * MEGABYTE) ? 0 : 5;
+}
+static int is_held_to_addresses(void) { return is_held_to(RLIMIT_AS); }
+static int is_held_to_data(void) { return is_held_to(RLIMIT_DATA); }
+
 /* All memory is locked, where that is allowed: not that of the largest heap at once. */
 static int locks_what_it_touches(void)
 {
@@ -422,6 +468,9 @@ int main(void)
     CHECK(status_of(large_requests) == 0);
     CHECK(status_of(in_little_space) == 0);
     CHECK(status_of(leaves_some_space) == 0);
+    CHECK(status_of(refuses_at_once) == 0);
+    CHECK(status_of(is_held_to_addresses) == 0);
+    CHECK(status_of(is_held_to_data) == 0);
     CHECK(status_of(locks_what_it_touches) == 0);
     CHECK(status_of(has_no_limit) == 0);
     CHECK(status_of(has_no_limit_either) == 0);

@@ -53,11 +53,34 @@ static NOINLINE void none_for_what_is_freed(void)
     CHECK(came == 0);
 }
 
+/* What is freed again and again leaves no room of its own, whatever it takes more than was asked for: the garbage that comes behind it is
+ * collected. */
+static NOINLINE void free_each(size_t bytes, size_t times)
+{
+    enum { TOGETHER = 1000 };
+    static void *all[TOGETHER];
+    for (; times > 0; times--) {
+        for (int k = 0; k < TOGETHER; k++) all[k] = GC_malloc_atomic(bytes);
+        for (int k = 0; k < TOGETHER; k++) GC_free(all[k]);
+    }
+}
+static NOINLINE void frees_leave_no_room(size_t bytes)
+{
+    for (size_t done = 0; done < 1000 * MEGABYTE; done += bytes) GC_free(GC_malloc_atomic(bytes));
+    if (bytes < 1000) free_each(bytes, 1000);
+    GC_word before = count();
+    for (size_t done = 0; done < 100 * MEGABYTE; done += bytes) GC_reachable_here(GC_malloc_atomic(bytes));
+    CHECK(count() - before > 1);
+}
+
 int main(void)
 {
     GC_INIT();
     one_for_16_pages(drop, 200);
     one_for_16_pages(keep, 140);
     none_for_what_is_freed();
+    frees_leave_no_room(528);
+    frees_leave_no_room(4096);
+    frees_leave_no_room(9000);
     return check_ends();
 }
