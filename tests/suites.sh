@@ -1,33 +1,37 @@
 #!/usr/bin/env bash
 # tests/suites.sh [NAME..]
 #
-# Test-suites of programs of Debian that use libgc, of their sources, by the programs as they are installed, over libgc, and over libmpgc by
-# LD_PRELOAD in full collections, in small steps, and with the collector's own thread. tests/suites/judged.sh has those whose tests say
-# themselves whether they fail (and crystal.sh those of crystal), tests/suites/compared.sh those whose tests say or write something, which has to be what they do over libgc.
+# Test-suites of programs of Debian that use libgc, of their sources, by the programs as they are installed, twice over libgc, and over
+# libmpgc by LD_PRELOAD in full collections, in small steps, with the collector's own thread, and with four markers. tests/suites/judged.sh
+# has those whose tests say themselves whether they fail (and crystal.sh those of crystal, standalone.sh those of guile that are programs),
+# tests/suites/compared.sh and letters.sh those whose tests say or write something, which has to be what they do over libgc.
 # It prints a table:
 #
-#     | SUITE | VERSION of the source | tests | fail over libgc | full | steps | thread | collections, of libgc and of these |
+#     | SUITE | VERSION of the source | tests | fail over libgc | full | steps | thread | markers | collections, of libgc and of these |
 #
-# where full, steps and thread say which tests fail that don't over libgc, or `none`. Its last line is `N same, M not, K left out`. The sources
-# are kept in the folder SOURCES, if it is set, each in a folder of its package's name; what isn't there comes by apt-get source, which needs a
-# deb-src line: of the first version that is to be had. MPHEAP_ARCHIVE and MPHEAP_INCLUDE are those of gc/build; MODES are the three, and
-# SECONDS_EACH, for one command, 900, unless they are set; KEEP is a folder for what was said.
+# where full and its kin say which tests fail that don't in either run over libgc, or `none`. What two runs over libgc say otherwise counts as
+# failing there. Its last line is `N same, M not, K left out`. The sources are kept in the folder SOURCES, if it is set, each in a folder of its
+# package's name; what isn't there comes by apt-get source, which needs a deb-src line: of the first version that is to be had. MPHEAP_ARCHIVE
+# and MPHEAP_INCLUDE are those of gc/build; MODES are the four, and SECONDS_EACH, for one command, 900, unless they are set; KEEP is a folder
+# for what was said. FILES is a pattern of the tests that are tried, of suites that have one; DIVISOR is in place of a suite's own.
 set -uo pipefail
 top=$(dirname "$(dirname "$(readlink -f "${BASH_SOURCE[0]}")")")
 room=$(mktemp -d)
 trap 'rm -rf "$room"' EXIT
 trap 'exit 143' INT TERM HUP
 export LC_ALL=C.UTF-8 HOME=$room/home
-read -ra modes <<<"${MODES:-full steps thread}"
+read -ra modes <<<"${MODES:-full steps thread markers}"
+shopt -s extglob
 preload=$room/lib/libmpgc.so
 
-# over MODE DIVISOR COMMAND..: the command over libgc, if MODE is none, or over libmpgc.
+# over MODE DIVISOR COMMAND..: the command over libgc, if MODE is none or again, or over libmpgc.
 over() {
-    local settings=("GC_FREE_SPACE_DIVISOR=$2" GC_PRINT_STATS=1)
+    local settings=("GC_FREE_SPACE_DIVISOR=${DIVISOR:-$2}" GC_PRINT_STATS=1)
     case $1 in
-        none) settings+=("GC_LOG_FILE=$room/log") ;;
+        none | again) settings+=("GC_LOG_FILE=$room/log") ;;
         steps) settings+=("LD_PRELOAD=$preload" GC_ENABLE_INCREMENTAL=1) ;;
         thread) settings+=("LD_PRELOAD=$preload" GC_COLLECTOR_THREAD=1) ;;
+        markers) settings+=("LD_PRELOAD=$preload" GC_MARKERS=4) ;;
         *) settings+=("LD_PRELOAD=$preload") ;;
     esac
     timeout -s KILL "${SECONDS_EACH:-900}" env "${settings[@]}" "${@:3}"
@@ -67,10 +71,13 @@ run_suite() {
     [ -z "${KEEP:-}" ] || cp -r "$room/$1.$3".* "$KEEP"
 }
 
+# failing NAME: the tests that fail in either run over libgc.
+failing() { sort -u "$room/$1.none.failing" "$room/$1.again.failing"; }
+
 # others NAME MODE: the tests that fail, and don't over libgc.
 others() {
     local more
-    more=$(sort -u "$room/$1.$2.failing" | comm -23 - <(sort -u "$room/$1.none.failing") | paste -sd ' ')
+    more=$(sort -u "$room/$1.$2.failing" | comm -23 - <(failing "$1") | paste -sd ' ')
     cmp -s "$room/$1.$2.count" "$room/$1.none.count" || more="$(cat "$room/$1.$2.count") tests ran. $more"
     echo "${more:-none}"
 }
@@ -79,7 +86,8 @@ others() {
 row() {
     local mode row collections
     run_suite "$1" "$2" none
-    row="| $1 | $(cat "$2/version" "$2/../version" 2>"$room/said" | head -n 1) | $(cat "$room/$1.none.count") | $(wc -l <"$room/$1.none.failing") |"
+    run_suite "$1" "$2" again
+    row="| $1 | $(cat "$2/version" "$2/../version" 2>"$room/said" | head -n 1) | $(cat "$room/$1.none.count") | $(failing "$1" | wc -l) |"
     collections=$(cat "$room/$1.none.collections")
     for mode in "${modes[@]}"; do
         run_suite "$1" "$2" "$mode"
@@ -94,7 +102,9 @@ suites=(
     nix:nix:nix-instantiate w3m:w3m:w3m ecl:ecl:ecl
     guile-3.0:guile-3.0:/usr/lib/x86_64-linux-gnu/guile/3.0/bin/guile guile-2.2:guile-3.0:/usr/lib/x86_64-linux-gnu/guile/2.2/bin/guile
     goo:goo:goo crystal:crystal:crystal crystal-threads:crystal:crystal poke:poke:poke neko:neko:neko asymptote:asymptote:asy
-    lilypond:lilypond:lilypond inkscape:inkscape:inkscape macaulay2:macaulay2:M2
+    lilypond:lilypond:lilypond inkscape:inkscape:inkscape macaulay2:macaulay2:M2 macaulay2-packages:macaulay2:M2
+    guile-standalone:guile-3.0:/usr/lib/x86_64-linux-gnu/guile/3.0/bin/guile lepton:lepton-eda:lepton-netlist mailutils:mailutils:lmtpd
+    maxima:ecl:maxima-sage
 )
 "$top/gc/build" "$room/lib" || exit 1
 same=0

@@ -11,7 +11,7 @@ tried() {
     ended=$?
     {
         cat out
-        grep -av '^mpgc: \|^Processing \|^GNU LilyPond' err
+        grep -av '^mpgc: \|^Processing \|^GNU LilyPond' err | sed 's/([a-z]*:[0-9]*): WARNING \*\*: [0-9:.]*/WARNING/'
         for file in written/*; do [ ! -e "$file" ] || { echo "file $file"; grep -av 'CreationDate' "$file"; }; done
         echo "status $ended"
     } >"$out" 2>&1
@@ -107,6 +107,33 @@ macaulay2_suite() {
         tried "$1" "$3" 30 "$file" M2 --script "$file"
         # (Times and addresses are in what they say.)
         sed -i '$!d' "$1.outs/$file"
+    done
+    compared "$1" "$3"
+}
+
+# The tests of some of macaulay2's packages, as these are installed, each package in a process of its own.
+macaulay2_packages_suite() {
+    local name
+    : >"$1.said"
+    for name in Text Elimination FourierMotzkin SymmetricPolynomials TangentCone LieTypes XML Graphs Posets SimplicialComplexes ReesAlgebra \
+        Points FGLM Depth Truncations; do
+        # shellcheck disable=SC2053 # (a pattern)
+        [[ $name = ${FILES:-*} ]] || continue
+        tried "$1" "$3" 10 "$name" M2 -q --silent -e "check \"$name\"" -e 'exit 0'
+        sed -i 's/[0-9.e-]* seconds elapsed//; s/^ -- used .*//; s/M2-[0-9]*-[0-9]*/M2/g' "$1.outs/$name"
+    done
+    compared "$1" "$3"
+}
+
+# Some files of maxima's test-suite, of the package maxima-test, by maxima on ecl: what it says of each problem.
+maxima_suite() {
+    local file
+    cp -r /usr/share/maxima/*/tests/. .
+    : >"$1.said"
+    for file in ${FILES:-rtest@(3|5|_trig|nset|_numth|_laplace|_taylor|sum)}.mac; do
+        # shellcheck disable=SC2016 # (maxima's $)
+        tried "$1" "$3" 3 "$file" maxima-sage --very-quiet --batch-string='file_search_tests:["./###.{mac,lisp}"]$ batch("'"$file"'",test)$'
+        sed -i 's/0x[0-9a-f]*/ADDRESS/g' "$1.outs/$file"
     done
     compared "$1" "$3"
 }
