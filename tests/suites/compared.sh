@@ -11,7 +11,7 @@ tried() {
     ended=$?
     {
         cat out
-        grep -av '^mpgc: \|^Processing \|^GNU LilyPond' err | sed 's/([a-z]*:[0-9]*): WARNING \*\*: [0-9:.]*/WARNING/'
+        grep -av '^mpgc: \|^Processing \|^GNU LilyPond' err | sed 's/([a-z]*:[0-9]*): WARNING \*\*: [0-9:.]*/WARNING/; s/mpgc: [0-9]* collections: .*//'
         for file in written/*; do [ ! -e "$file" ] || { echo "file $file"; grep -av 'CreationDate' "$file"; }; done
         echo "status $ended"
     } >"$out" 2>&1

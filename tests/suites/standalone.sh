@@ -24,7 +24,9 @@ guile_standalone_suite() {
     export PATH=$PWD:$PATH builddir=. srcdir=. top_srcdir=.. GUILE_AUTO_COMPILE=0 GUILE_LOAD_PATH=$PWD LD_LIBRARY_PATH=$PWD
     chmod +x guile
     compiled "${flags[@]}" >"$1.compiled" 2>&1
-    mapfile -t tests < <(find . -maxdepth 1 -name "test-${FILES:-*}" | sed 's/[.]c$//; s/[.]in$//' | grep -v '[.].*[.]\|-lib$' | sort -u)
+    # shellcheck disable=SC2086 # (a pattern)
+    mapfile -t tests < <(printf '%s\n' ./test-${FILES:-*} | sed 's/[.]c$//; s/[.]in$//' | grep -v '[.].*[.]\|-lib$' | sort -u)
+    : >"$1.said"
     for file in "${tests[@]}"; do
         [ ! -e "$file" ] || chmod +x "$file"
         over "$3" 30 "$file" </dev/null >>"$1.said" 2>&1
