@@ -40,8 +40,13 @@ static size_t granules_of(size_t words) { return (words + GRANULE / WORD - 1) / 
 static size_t pages_of(size_t words) { return (words + PAGE / WORD - 1) / (PAGE / WORD); }
 
 // Where an object lies past what the heap may use, the core has cleared it by the time that this is seen. So a large one that has no room
-// at all isn't asked for: it would take the machine's memory.
-static bool may_fit(size_t pages) { return pages < BLOCK || mpgc_may_have(mpgc_used_pages() + pages); }
+// at all, behind all sweeping, isn't asked for: it would take the machine's memory.
+static bool may_fit(size_t pages)
+{
+    if (pages < BLOCK || mpgc_may_have(mpgc_used_pages() + pages)) return true;
+    while (mpgc_sweep_some(MAX_PAGES)) { }
+    return mpgc_may_have(mpgc_used_pages() + pages);
+}
 
 // An object of its own request, whose pages are known; 0 where there is no room.
 static uint64_t ask(size_t words, enum page_kind kind)
