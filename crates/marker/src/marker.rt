@@ -22,7 +22,8 @@ use std::marker::Model;
 use words::limits::PAGE_BYTES;
 use words::{BitRow, OpenError, PageNo, granule_of};
 
-/// Marks, dirty pages and the objects to be read, as one value.
+/// Marks, dirty pages and the objects to be read, as one value. Where the object lies that was read last is no part of that: it says
+/// which ones are begun together alone.
 #[derive(Drop)]
 pub struct Marker {
     pub(crate) marks: Marks,
@@ -30,6 +31,7 @@ pub struct Marker {
     pub(crate) carried: DirtyPages,
     pub(crate) current: Option<Entry>,
     pub(crate) stack: MarkStack,
+    pub(crate) last: u64,
 }
 
 impl Model for Marker {
@@ -68,6 +70,7 @@ impl Marker {
             carried,
             current: None,
             stack: MarkStack::new(),
+            last: 0,
         })
     }
 

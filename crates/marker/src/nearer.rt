@@ -7,7 +7,20 @@ ghost use Rattle.marker.specs.Entries.{AreUnreadFrom, IsTurned};
 
 use crate::marker::Marker;
 
+// Within so many bytes of the object that was read last a processor fetches by itself.
+const NEAR: u64 = 2_048;
+
 impl Marker {
+    // Whether the object on top of the stack lies near the one that was read last.
+    #[inline]
+    pub(crate) fn is_near(&self) -> bool {
+        let waiting = self.waiting();
+        match waiting.last() {
+            Some(top) => top.base.abs_diff(self.last) < NEAR,
+            None => false,
+        }
+    }
+
     // Brings the second entry from the top onto the top.
     #[inline]
     fn bring_second(&mut self)
@@ -26,6 +39,7 @@ impl Marker {
         ensures turned { IsTurned self.old self.new }
         ensures known { (found : ℕ → Option Found) (n : ℕ) → n < depth → AreUnreadFrom found self.old n self.old.stack → AreUnreadFrom found self.new n self.new.stack }
     {
+        self.last = base;
         let waiting = self.waiting();
         let count = waiting.len();
         if count <= depth {

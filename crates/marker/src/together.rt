@@ -56,6 +56,7 @@ impl Marker {
         ensures taken { self.old ≡ with_stack self.new (self.new.stack ++ entry_begun result ∷ []) }
     {
         self.drop_top();
+        self.last = entry.base;
         Begun {
             base: entry.base,
             len: entry.len,

@@ -190,6 +190,9 @@ impl Marker {
         if self.depth().wrapping_sub(known + 1) < WIDE - 1 {
             return self.read_top(map, heap_bytes, reader, known, left);
         }
+        if self.depth() > known && self.is_near() {
+            return self.read_top(map, heap_bytes, reader, known, left);
+        }
         let read = self.read_many(map, heap_bytes, reader, known, *left);
         *left -= read;
         read > 0
