@@ -16,7 +16,7 @@ use words::limits::{PAGE_BYTES, WORD_BYTES};
 
 // Objects are begun together where so many wait that are known to have words. Where fewer do, as along a list, that would cost more than it
 // saves.
-const WIDE: usize = 4;
+const WIDE: usize = 16;
 
 // Where more wait, objects are read one by one, which needs less of the stack.
 const CROWDED: usize = ENTRIES - ENTRIES / 8;
