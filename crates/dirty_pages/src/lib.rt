@@ -48,30 +48,34 @@ impl DirtyPages {
         Ok(DirtyPages { row })
     }
 
-    /// Whether the page is in the set.
+    /// Whether the page is in the set. One that the heap doesn't have isn't.
     #[inline]
     pub fn is_dirty(&self, page: PageNo) -> bool
-        requires { page < length self.now }
         ensures { result ≡ slice_index_or self.now page false }
     {
-        self.row.is_set(page as usize)
+        let page = page as usize;
+        page < self.row.len() && self.row.is_set(page)
     }
 
-    /// Puts the page into the set.
+    /// Puts the page into the set, if the heap has it.
     #[inline]
     pub fn set(&mut self, page: PageNo)
-        requires { page < length self.old }
         ensures { self.new ≡ slice_set self.old page true }
     {
-        self.row.set(page as usize);
+        let page = page as usize;
+        if page < self.row.len() {
+            self.row.set(page);
+        }
     }
 
     /// Takes the page out of the set.
     pub fn clear(&mut self, page: PageNo)
-        requires { page < length self.old }
         ensures { self.new ≡ slice_set self.old page false }
     {
-        self.row.clear(page as usize);
+        let page = page as usize;
+        if page < self.row.len() {
+            self.row.clear(page);
+        }
     }
 
     /// How many pages are in the set. Words of the row that have none are passed over.

@@ -17,7 +17,7 @@ module _ (row row' : List Bool) (states states' : List PageState) (first n : ℕ
   agree_given size to from = record {
     size = given.size ∙ size ∙ sym span.size;
     free_in_map = λ p is. ⊎_elim (λ h. span.inside p h.0 h.1) (λ out. span.others p out ∙ to p out (sym (given.others p out) ∙ is)) (place_of first n p);
-    free_in_pool = λ p lt is. ⊎_elim (λ h. given.inside p h.0 h.1) (λ out. given.others p out ∙ from p out (let z = span.size in omega arith) (sym (span.others p out) ∙ is)) (place_of first n p);
+    free_in_pool = λ p lt is. ⊎_elim (λ h. given.inside p h.0 h.1 (let z = span.size in omega arith)) (λ out. given.others p out ∙ from p out (let z = span.size in omega arith) (sym (span.others p out) ∙ is)) (place_of first n p);
   }
 
   pub used_given : ((p : ℕ) (b : Cells) → (p < first) ⊎ (first + n ≤ p) → state_at states p ≡ cut b → (i : ℕ) × (get_or b.taken i false ≡ true))

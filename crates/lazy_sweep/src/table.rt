@@ -95,7 +95,6 @@ impl PageTable {
     pub fn free_block(&mut self, page: PageNo, class: Class, kind: Kind)
         requires inside { page < length self.old.map }
         requires cut { IsCut (state_at self.old.map page) }
-        requires size { length self.old.pool ≡ length self.old.map }
         requires listed { page < length (row_of self.old.ready class kind) }
         requires awaited { page < length (row_of (waiting_of self.old) class kind) }
         requires row { page < length (pending_of self.old) }

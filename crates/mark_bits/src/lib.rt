@@ -8,7 +8,7 @@
 //! `set`, `clear` and `clear_all` of the set are exact. On the table a thread claims a mark by one `fetch_or` and looks by
 //! one `load`; neither takes a handle to wait. For every schedule each bit set since the table was made stands in exactly one won
 //! list, and when all claimers are joined the marks are those at the start and the won lists together, each once (`Gathers` of
-//! `finish`, `gathered_marks`). A table has the words of the used pages alone (`granules_of`).
+//! `finish`, `gathered_marks`). A table has the words of all pages, or of those in use alone (`granules_of`).
 #![tactic(auto)]
 
 mod claimer_view;

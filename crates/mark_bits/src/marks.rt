@@ -47,12 +47,19 @@ impl Marks {
         self.row.len()
     }
 
-    /// Whether the granule is marked.
+    // How many pages the heap has.
+    pub(crate) fn pages(&self) -> PageNo
+        ensures count { PAGE_GRANULES * result ≡ length self.now }
+        ensures some { 0 < result }
+    {
+        (self.row.len() / PAGE_GRANULES as usize) as u32
+    }
+
+    /// Whether the granule is marked. One that the heap doesn't have isn't.
     pub fn is_set(&self, granule: usize) -> bool
-        requires { granule < length self.now }
         ensures { result ≡ slice_index_or self.now granule false }
     {
-        self.row.is_set(granule)
+        granule < self.row.len() && self.row.is_set(granule)
     }
 
     /// How many granules of a page are marked, counted by whole words.
@@ -64,24 +71,33 @@ impl Marks {
         self.row.count(first, first + PAGE_GRANULES as usize)
     }
 
-    /// Marks the granule.
+    /// Marks the granule, if the heap has it.
     pub fn set(&mut self, granule: usize)
-        requires { granule < length self.old }
         ensures { self.new ≡ slice_set self.old granule true }
     {
-        self.row.set(granule);
+        if granule < self.row.len() {
+            self.row.set(granule);
+        }
     }
 
     /// Takes the granule's mark away.
     pub fn clear(&mut self, granule: usize)
-        requires { granule < length self.old }
         ensures { self.new ≡ slice_set self.old granule false }
     {
-        self.row.clear(granule);
+        if granule < self.row.len() {
+            self.row.clear(granule);
+        }
     }
 
-    /// Takes all marks away, of which none is on a page from `used` on: what is past those pages isn't written.
-    pub fn clear_all(&mut self, used: PageNo)
+    /// Takes all marks away.
+    pub fn clear_all(&mut self)
+        ensures { IsClear self.new (length self.old) }
+    {
+        self.row.clear_all();
+    }
+
+    /// The same where no mark is on a page from `used` on: what is past those pages isn't written.
+    pub fn clear_used(&mut self, used: PageNo)
         requires inside { PAGE_GRANULES * used ≤ length self.old }
         requires none { IsEmptyFrom self.old (PAGE_GRANULES * used) }
         ensures { IsClear self.new (length self.old) }

@@ -73,8 +73,7 @@ impl Join<ClaimerView> for Parts {
     ghost spent = { spent };
 }
 
-// Whether a word has not the bit. The test by the same mask is one instruction together with the `fetch_or` before it, which by a shift would
-// be a loop.
+// Whether a word has not the bit.
 #[inline]
 fn is_clear(word: u64, bit: usize) -> bool
     ensures { result ≡ (bit_at word (bit % 64) == 0) }
@@ -103,9 +102,19 @@ pub struct Claimer {
 impl MarkTable {
     ghost use Rattle.mark_bits.specs.Tables.{view, start_of, granules_of, IsOf};
 
-    /// A table that begins with the bits of the marks, and the claimer that has all of it. It has the words of the first `used` pages
-    /// alone, since no mark is on a page from there on. The one error is [`OpenError::Memory`].
-    pub fn new(
+    /// A table of all granules that begins with the bits of the marks, and the claimer that has all of it. The one error is
+    /// [`OpenError::Memory`].
+    pub fn new(alloc: Global, marks: &Marks) -> Result<(MarkTable, Claimer), OpenError>
+        ensures table { IfOk result (λ made. (start_of made.0 ≡ marks.now) × IsOf made.0 made.1) }
+        ensures granules { IfOk result (λ made. granules_of made.0 ≡ length marks.now) }
+        ensures claimer { IfOk result (λ made. view made.1 ≡ first_view marks.now) }
+        ensures err { IfErr result (λ error. error ≡ Memory) }
+    {
+        MarkTable::of_used(alloc, marks, marks.pages())
+    }
+
+    /// The same with the words of the first `used` pages alone, where no mark is on a page from there on.
+    pub fn of_used(
         alloc: Global,
         marks: &Marks,
         used: PageNo,
@@ -151,19 +160,24 @@ impl MarkTable {
         self.table.shared.join_seat::<Parts>(&mut me.seat, seat);
     }
 
-    /// Sets the bit. The answer is whether it was clear at this claim's one step, and then the claimer has won it: of all claims of a
-    /// bit that was not set at the start, it is the first.
+    /// Sets the bit, if the table has it. The answer is whether it was clear at this claim's one step, and then the claimer has won it: of
+    /// all claims of a bit that was not set at the start, it is the first. A bit that the table doesn't have is never won, and its claim is
+    /// no step.
     pub fn claim(&self, me: &mut Claimer, bit: usize) -> bool
         requires of { IsOf self.now me.old }
-        requires bit { bit < granules_of self.now }
         ensures of { IsOf self.now me.new }
-        ensures step { IsClaim (view me.old) (view me.new) bit result }
+        ensures past { granules_of self.now ≤ bit → (result ≡ false) × (view me.new ≡ view me.old) }
+        ensures step { bit < granules_of self.now → IsClaim (view me.old) (view me.new) bit result }
         ensures learns { LearnsMore (view me.old) (view me.new) }
-        ensures known { knows (view me.new) bit ≡ true }
+        ensures known { bit < granules_of self.now → knows (view me.new) bit ≡ true }
         ensures won { (view me.new).won ≡ (if result then bit ∷ (view me.old).won else (view me.old).won) }
         ensures unmarked { result ≡ true → slice_index_or (start_of self.now) bit false ≡ false }
         ensures unknown { result ≡ true → knows (view me.old) bit ≡ false }
     {
+        if bit / 64 >= self.table.word_count() {
+            // Nobody wins a bit that the table doesn't have.
+            return false;
+        }
         // One step sets the bit and reads what it was, so of two claims of a clear bit one finds it clear.
         let found = self
             .table
@@ -172,18 +186,21 @@ impl MarkTable {
         is_clear(found, bit)
     }
 
-    /// Whether the bit is set: true for each bit that was set at the start or that the claimer knows, and true
-    /// only for a set bit, which the claimer then knows.
+    /// Whether the bit is set: true for each bit of the table that was set at the start or that the claimer knows, and true
+    /// only for a set bit, which the claimer then knows. A bit that the table doesn't have isn't set, and a look at it is no step.
     pub fn is_set(&self, me: &mut Claimer, bit: usize) -> bool
         requires of { IsOf self.now me.old }
-        requires bit { bit < granules_of self.now }
         ensures of { IsOf self.now me.new }
+        ensures past { granules_of self.now ≤ bit → (result ≡ false) × (view me.new ≡ view me.old) }
         ensures learns { LearnsMore (view me.old) (view me.new) }
         ensures won { (view me.new).won ≡ (view me.old).won }
         ensures set { result ≡ true → knows (view me.new) bit ≡ true }
-        ensures marked { slice_index_or (start_of self.now) bit false ≡ true → result ≡ true }
-        ensures known { knows (view me.old) bit ≡ true → result ≡ true }
+        ensures marked { bit < granules_of self.now → slice_index_or (start_of self.now) bit false ≡ true → result ≡ true }
+        ensures known { bit < granules_of self.now → knows (view me.old) bit ≡ true → result ≡ true }
     {
+        if bit / 64 >= self.table.word_count() {
+            return false;
+        }
         // No step clears a bit, so a bit that was set before this load is still set.
         let found = self.table.shared.load::<Look>(&mut me.seat, bit / 64);
         (found >> (bit % 64)) & 1 == 1

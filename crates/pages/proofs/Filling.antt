@@ -1,5 +1,5 @@
 -- The filling of a run of pages by whole words.
-use Rattle.std.proofs.Common.{◌≡◌, ◌≢◌, ℕ, ◌-◌, ◌+◌, ◌*◌, ◌/◌, ◌%◌, ◌^◌, ◌<◌, ◌≤◌, Bool, true, false, ◌==◌, List, length, get_or, refl, sym, ap, ◌∙◌, subst, arith, inl, inr, ⊎_elim}
+use Rattle.std.proofs.Common.{◌≡◌, ◌≢◌, ℕ, min, ◌-◌, ◌+◌, ◌*◌, ◌/◌, ◌%◌, ◌^◌, ◌<◌, ◌≤◌, Bool, true, false, ◌==◌, List, length, get_or, refl, sym, ap, ◌∙◌, subst, arith, inl, inr, ⊎_elim}
 use Rattle.std.specs.Int.{bit_at, bit_not, w64}
 use Rattle.std.specs.Int.RustNames.{bit_and, bit_or}
 use Rattle.std.proofs.lemmas.Bool.{cases_lt, cases_eq}
@@ -56,7 +56,7 @@ pub word_filled : (old new : List Bool) (words : List ℕ) (first n mask w : ℕ
 unfolding bit
 word_filled old new words first n mask w b is word fits mask_has chosen size here else = record {
   size = size;
-  inside = λ k from below. here k (omega arith) (omega arith) ∙ chosen.one (k % 64) (omega arith) (mask_has.inside (k % 64) (omega arith) (omega arith));
+  inside = λ k from below there. here k there (omega arith) ∙ chosen.one (k % 64) (omega arith) (mask_has.inside (k % 64) (omega arith) (omega arith));
   others = λ k h. ⊎_elim
       (λ (e : k / 64 ≡ first / 64). ⊎_elim
       (λ (lt : k < length old). here k lt e
@@ -81,7 +81,7 @@ pub fill_start : (row : List Bool) (first n : ℕ) (b : Bool) → IsFilledTo row
 fill_start row first n b = record {
   from = omega arith;
   all = refl;
-  filled = record { size = refl; inside = λ k a c. absurd (omega arith); others = λ k a. refl };
+  filled = record { size = refl; inside = λ k a c lt. absurd (omega arith); others = λ k a. refl };
 }
 
 pub fill_more : (old row new : List Bool) (first n low left here : ℕ) (b : Bool) → IsFilledTo old row first n low left b → here ≤ left → IsFilled row new low here b
@@ -93,7 +93,7 @@ fill_more old row new first n low left here b f few word =
       all = omega (arith, f.all);
       filled = record {
         size = word.size ∙ f.filled.size;
-        inside = λ k a c. ⊎_elim (λ lt. word.others k (inl lt) ∙ f.filled.inside k a (omega arith)) (λ ge. word.inside k ge (omega arith)) (cases_lt k low);
+        inside = λ k a c there. ⊎_elim (λ lt. word.others k (inl lt) ∙ f.filled.inside k a (omega arith) there) (λ ge. word.inside k ge (omega arith) (let size = f.filled.size in omega arith)) (cases_lt k low);
         others = λ k h. word.others k (⊎_elim (λ a. inl (omega arith)) (λ a. inr (omega arith)) h) ∙ f.filled.others k (⊎_elim (λ a. inl a) (λ a. inr (omega arith)) h);
       };
     }
@@ -102,6 +102,17 @@ pub fill_end : (old row : List Bool) (first n low left : ℕ) (b : Bool) → IsF
 fill_end old row first n low left b f none = subst (λ m. IsFilled old row first m b) (let e : low - first ≡ n = omega (arith, f.all) in e) f.filled
 
 pub filled_whole : (old new : List Bool) (n : ℕ) → length old ≡ n → IsFilled old new 0 n true → AreAllFree new n
-filled_whole old new n e f = record { size = f.size ∙ e; free = λ k lt. f.inside k (omega arith) (omega arith) }
+filled_whole old new n e f = record { size = f.size ∙ e; free = λ k lt. f.inside k (omega arith) (omega arith) (omega arith) }
 
-pub ruleset filling = (fill_start, fill_more, fill_end, filled_whole)
+-- a run that ends past the row is filled as far as the row goes
+pub filled_there : (old new : List Bool) (first n : ℕ) (b : Bool) → IsFilled old new (min (length old) first) (min n (length old - min (length old) first)) b → IsFilled old new first n b
+filled_there old new first n b f = record {
+  size = f.size;
+  inside = λ k from below there. f.inside k (omega arith) (omega arith) there;
+  others = λ k h. ⊎_elim
+      (λ (lt : k < length old). f.others k (⊎_elim (λ a. inl (omega arith)) (λ a. inr (omega arith)) h))
+      (λ past. get_or_past new k false (let size = f.size in omega arith) ∙ sym (get_or_past old k false past))
+      (cases_lt k (length old));
+}
+
+pub ruleset filling = (fill_start, fill_more, fill_end, filled_whole, filled_there)

@@ -1,6 +1,7 @@
 -- Where a search for free pages may begin, as pages are taken and given back.
 use Rattle.std.proofs.Common.{◌≡◌, ℕ, min, max, ◌+◌, ◌-◌, ◌<◌, ◌≤◌, Bool, true, false, List, length, get_or, refl, sym, ap, ◌∙◌, subst, ⊎_elim, arith, inl, inr}
 use Rattle.std.proofs.lemmas.Bool.{cases_lt, false≢true}
+use Rattle.std.proofs.lemmas.List.{get_or_past}
 use Rattle.pages.specs.Runs.{IsFreeRun, IsFirstFreeRun, HasNoFreeRun, IsFilled, AreUsedBelow}
 use Rattle.pages.specs.Hints.{HasNoRunBelow, AreHints}
 use Rattle.pages.specs.declared.hints.Hints.{Hints}
@@ -41,12 +42,19 @@ below_first row i k first lt = by (get_or row k false) refl
       free = λ j a b. let e : j ≡ k = omega (arith, a, b) in ap (λ m. get_or row m false) e ∙ is;
     }))
 
+-- a page that was taken isn't free, and neither is one that the row doesn't have
+taken_false : (old new : List Bool) (first n k : ℕ) → IsFilled old new first n false → first ≤ k → k < first + n → get_or new k false ≡ false
+taken_false old new first n k filled from within = ⊎_elim
+    (λ there. filled.inside k from within there)
+    (λ past. get_or_past new k false (let size = filled.size in omega (arith, past, size)))
+    (cases_lt k (length old))
+
 -- a page that is free behind it was free before
 was_free : (old new : List Bool) (first n k : ℕ) → IsFilled old new first n false → get_or new k false ≡ true → get_or old k false ≡ true
 was_free old new first n k filled is = ⊎_elim
     (λ before. sym (filled.others k (inl before)) ∙ is)
     (λ from. ⊎_elim
-    (λ within. absurd (false≢true (sym (filled.inside k from within) ∙ is)))
+    (λ within. absurd (false≢true (sym (taken_false old new first n k filled from within) ∙ is)))
     (λ past. sym (filled.others k (inr past)) ∙ is)
     (cases_lt k (first + n)))
     (cases_lt k first)
@@ -87,7 +95,7 @@ module _ (old new : List Bool) (first n : ℕ) (hints : Hints) (are : AreHints o
           inside = let within = single.run.inside in let size = filled.size in omega (arith, within, size);
           used = λ k lt. ⊎_elim
               (λ before. filled.others k (inl before) ∙ below_first old first k single before)
-              (λ from. filled.inside k from (omega (arith, lt, one)))
+              (λ from. taken_false old new first n k filled from (omega (arith, lt, one)))
               (cases_lt k first);
         };
         none = hints_taken.none;

@@ -26,10 +26,10 @@ pub record IsFirstFreeRunFrom (row : List Bool) (low i n : ℕ) : Type 0 where
 abbrev pub HasNoFreeRunFrom : List Bool → ℕ → ℕ → Type 0
 HasNoFreeRunFrom row low n = (i : ℕ) → low ≤ i → IsFreeRun row i n → ⊥
 
--- the pages from i on, n of them, have become b, and the others are as they were
+-- of the pages from i on, n of them, those that the row has have become b, and the others are as they were
 pub record IsFilled (old new : List Bool) (i n : ℕ) (b : Bool) : Type 0 where
   pub size : length new ≡ length old
-  pub inside : (k : ℕ) → i ≤ k → k < i + n → slice_index_or new k false ≡ b
+  pub inside : (k : ℕ) → i ≤ k → k < i + n → k < length old → slice_index_or new k false ≡ b
   pub others : (k : ℕ) → (k < i) ⊎ (i + n ≤ k) → slice_index_or new k false ≡ slice_index_or old k false
 
 -- no page below `low` is free

@@ -212,12 +212,14 @@ impl PagePool {
         Some(first as u32)
     }
 
-    /// Gives n pages back from the page `first` on.
+    /// Gives n pages back from the page `first` on, those of them that the heap has.
+    #[tactic(auto, using(crate::proofs::Filling::filling))]
     pub fn give(&mut self, first: PageNo, n: u32)
-        requires { first + n ≤ length self.old }
         ensures { IsFilled self.old self.new first n true }
     {
-        fill(&mut self.free, first as usize, n as usize, true);
-        self.hints.given(first as usize, n as usize);
+        let first = self.free.len().min(first as usize);
+        let n = (n as usize).min(self.free.len() - first);
+        fill(&mut self.free, first, n, true);
+        self.hints.given(first, n);
     }
 }

@@ -13,7 +13,7 @@ use std::alloc::AllocError;
 use std::array::try_from_fn;
 use std::marker::Model;
 use words::limits::{GLOBALS, SLOTS};
-use words::{Global, Placement, Refusal, Reg, Slot, class_of};
+use words::{Global, Placement, Refusal, Reg, Slot, class_within};
 
 pub(crate) type Mutators = [MutatorSlot; SLOTS as usize];
 
@@ -90,7 +90,7 @@ impl Roots {
         ensures placement { result ≡ placement_of self.now.request_words words }
         ensures few { self.now.request_words ≤ MOST_REQUEST_WORDS }
     {
-        class_of(self.request_words, words)
+        class_within(self.request_words, words)
     }
 
     /// The mutator attached at a slot.

@@ -1,5 +1,7 @@
--- The codes and names of refusals, as they are printed.
+-- The codes and names of refusals, as they are printed, and the codes of why a heap isn't opened.
 use Rattle.std.specs.Prelude.{ℕ, List, codes}
+use Rattle.words.specs.declared.refusal.OpenError.{OpenError}
+use Rattle.words.specs.declared.refusal.OpenError.TheVariants.{BadPages, Memory}
 use Rattle.words.specs.declared.refusal.Refusal.{Refusal}
 use Rattle.words.specs.declared.refusal.Refusal.TheVariants.{NoSlot, Misaligned, NoObject, NotBase, BadSize, Full, StackFull, StackEmpty, WrongPhase, LinksFull, NotPointerFree, NeedsFull}
 
@@ -17,6 +19,11 @@ code_of WrongPhase = 9
 code_of LinksFull = 10
 code_of NotPointerFree = 11
 code_of NeedsFull = 12
+
+-- The code of why a heap isn't opened.
+abbrev pub open_code_of : OpenError → ℕ
+open_code_of BadPages = 1
+open_code_of Memory = 2
 
 -- The name that is printed of a refusal, in the codes of its letters.
 abbrev pub name_of : Refusal → List ℕ

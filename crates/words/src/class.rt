@@ -1,11 +1,11 @@
 //! Size classes, kinds, and where a request goes.
 ghost use Rattle.std.specs.Prelude.{◌≡◌, ℕ, ◌≤◌, ◌*◌, ◌/◌, Some, find, nat_le, slice_get};
 ghost use Rattle.words.specs.declared.class.TheConstants.{CLASSES};
-ghost use Rattle.words.specs.declared.limits.TheConstants.{MAX_SMALL_WORDS, MOST_REQUEST_WORDS, PAGE_WORDS};
+ghost use Rattle.words.specs.declared.limits.TheConstants.{MAX_REQUEST_WORDS, MAX_SMALL_WORDS, MOST_REQUEST_WORDS, PAGE_WORDS};
 ghost use Rattle.words.specs.Classes.{IsSizeClass};
 ghost use Rattle.words.specs.Placing.{placement_of};
 
-use crate::limits::{GRANULE_WORDS, MAX_SMALL_WORDS, PAGE_WORDS};
+use crate::limits::{GRANULE_WORDS, MAX_REQUEST_WORDS, MAX_SMALL_WORDS, PAGE_WORDS};
 use std::marker::Model;
 
 /// The words of each size class, from the least.
@@ -94,10 +94,17 @@ pub enum Placement {
     Large(u32),
 }
 
-/// Where a request of so many words goes: into a cell of the least size class that holds them, and past the largest
-/// class onto pages of its own. It is named for the class, but answers a placement. `None` exactly for a request of no
-/// words or of more than the limit.
-pub fn class_of(limit: u64, words: u64) -> Option<Placement>
+/// Where a request of so many words goes in a heap of scripts: into a cell of the least size class that holds them, and past
+/// the largest class onto pages of its own. It is named for the class, but answers a placement. `None` exactly for a request
+/// of no words or of more than [`MAX_REQUEST_WORDS`].
+pub fn class_of(words: u64) -> Option<Placement>
+    ensures { result ≡ placement_of MAX_REQUEST_WORDS words }
+{
+    class_within(MAX_REQUEST_WORDS, words)
+}
+
+/// The same in a heap with a limit of its own, in words.
+pub fn class_within(limit: u64, words: u64) -> Option<Placement>
     requires { limit ≤ MOST_REQUEST_WORDS }
     ensures { result ≡ placement_of limit words }
 {

@@ -21,7 +21,7 @@ mod refusal;
 mod scan;
 
 pub use bit_row::{BitRow, clear_first};
-pub use class::{CLASSES, Class, Kind, Placement, class_of};
+pub use class::{CLASSES, Class, Kind, Placement, class_of, class_within};
 pub use count::ones_of;
 pub use granule_row::GranuleRow;
 pub use layout::{granule_of, page_of, page_start};

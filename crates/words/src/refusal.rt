@@ -1,6 +1,6 @@
 //! Why a call is refused, and why a heap is not opened or a run not made.
 ghost use Rattle.std.specs.Prelude.{◌≡◌};
-ghost use Rattle.words.specs.Refusals.{code_of, name_of};
+ghost use Rattle.words.specs.Refusals.{code_of, name_of, open_code_of};
 
 use std::alloc::AllocError;
 
@@ -94,6 +94,18 @@ pub enum OpenError {
 
     /// A growth of memory was refused.
     Memory,
+}
+
+impl OpenError {
+    /// The code, from 1.
+    pub fn code(self) -> u8
+        ensures { result ≡ open_code_of self }
+    {
+        match self {
+            OpenError::BadPages => 1,
+            OpenError::Memory => 2,
+        }
+    }
 }
 
 impl From<AllocError> for OpenError {

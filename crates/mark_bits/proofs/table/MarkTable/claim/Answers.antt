@@ -8,7 +8,7 @@ use Rattle.mark_bits.proofs.table.MarkTable.claim.Goals as goal
 pub fetch_or-found-requires : goal.fetch_or-found-requires
 fetch_or-found-requires c =
     let table = c.args.self.now in
-    let told = table.told in let bit = c.requires.bit in
+    let told = table.told in let bit = c.if-bit-word_count.false in let count = c.word_count.ensures in
     let inside : c.args.bit / 64 < table.table.shared.key.words = omega arith in
     (c.requires.of.table, omega arith, claims table.table.shared.key.marks.value _ _ _ _ c.args.bit c.args.me.now.part inside)
 
@@ -31,4 +31,4 @@ returns-clause-learns c =
     record { right = ap (λ (u : ClaimerView). u.right) after; known = λ k h. ap (λ (u : ClaimerView). knows u k) after ∙ shows-more k _ _ h }
 
 pub returns-clause-known : goal.returns-clause-known
-returns-clause-known c = claim_known _ _ c.args.bit _ (c.fetch_or-found.ensures.2.1 c.args.bit refl refl).0
+returns-clause-known c = λ _. claim_known _ _ c.args.bit _ (c.fetch_or-found.ensures.2.1 c.args.bit refl refl).0

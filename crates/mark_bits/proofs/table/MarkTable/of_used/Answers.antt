@@ -2,7 +2,7 @@ use Rattle.std.proofs.Common.{refl, ap, ◌∙◌}
 use Rattle.mark_bits.specs.Claims.{has}
 use Rattle.mark_bits.proofs.Passing.{opens}
 use Rattle.mark_bits.proofs.Words.{has-below}
-use Rattle.mark_bits.proofs.table.MarkTable.new.Goals as goal
+use Rattle.mark_bits.proofs.table.MarkTable.of_used.Goals as goal
 
 pub of_words-requires : goal.of_words-requires
 of_words-requires c =
