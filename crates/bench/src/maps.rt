@@ -53,9 +53,7 @@ fn take_runs(pool: &mut PagePool) -> u64 {
             return sum;
         };
         sum = sum.wrapping_add(u64::from(first));
-        if u64::from(first) + 3 <= u64::from(pool.len()) {
-            pool.give(first, 3);
-        }
+        pool.give(first, 3);
     }
     sum
 }
@@ -84,9 +82,7 @@ fn scatter(pool: &mut PagePool) {
         let _second = pool.take_run(2);
     }
     for third in 0..330 {
-        if 3 * third + 2 < pool.len() {
-            pool.give(3 * third + 1, 2);
-        }
+        pool.give(3 * third + 1, 2);
     }
 }
 

@@ -1,6 +1,6 @@
 //! A claim and a look on a table of marks: each thread claims, then looks at, each bit of one table.
-ghost use Rattle.std.specs.Prelude.{◌≡◌, All, IfOk};
-ghost use Rattle.mark_bits.specs.Tables.{granules_of, IsOf};
+ghost use Rattle.std.specs.Prelude.{All, IfOk};
+ghost use Rattle.mark_bits.specs.Tables.{IsOf};
 
 use crate::figures::{report, since};
 use mark_bits::{Claimer, MarkTable, Marks};
@@ -17,7 +17,6 @@ const ROUNDS: u8 = 10;
 const BITS: u64 = PAGE_GRANULES * MAX_PAGES as u64;
 
 fn claim_each(table: &MarkTable, granules: usize, me: &mut Claimer)
-    requires granules { granules ≡ granules_of table.now }
     requires ready { IsOf table.now me.old }
     ensures { IsOf table.now me.new }
 {
@@ -27,7 +26,6 @@ fn claim_each(table: &MarkTable, granules: usize, me: &mut Claimer)
 }
 
 fn look_each(table: &MarkTable, granules: usize, me: &mut Claimer)
-    requires granules { granules ≡ granules_of table.now }
     requires ready { IsOf table.now me.old }
     ensures { IsOf table.now me.new }
 {
@@ -38,7 +36,6 @@ fn look_each(table: &MarkTable, granules: usize, me: &mut Claimer)
 
 // Each bit is claimed, or looked at.
 fn go_over(table: &MarkTable, granules: usize, me: &mut Claimer, is_claim: bool)
-    requires granules { granules ≡ granules_of table.now }
     requires ready { IsOf table.now me.old }
     ensures { IsOf table.now me.new }
 {
@@ -56,12 +53,11 @@ fn go_side_by_side<R: Threads + Sync>(
     crew: &mut [Claimer],
     is_claim: bool,
 )
-    requires granules { granules ≡ granules_of table.now }
     requires crew { All (λ c. IsOf table.now c) crew.old }
     ensures { All (λ c. IsOf table.now c) crew.new }
 {
     let work = |_: usize, me: &mut Claimer|
-        requires { (granules ≡ granules_of table.now) × IsOf table.now me.now }
+        requires { IsOf table.now me.now }
         ensures { IsOf table.entry.now me.exit.now }
     {
         go_over(table, granules, me, is_claim);
@@ -93,7 +89,6 @@ fn time_side_by_side<R: Threads + Sync + Clock>(
     crew: &mut [Claimer],
     is_claim: bool,
 ) -> io::Result<u128>
-    requires granules { granules ≡ granules_of table.now }
     requires crew { All (λ c. IsOf table.now c) crew.old }
     ensures { All (λ c. IsOf table.now c) crew.new }
 {
@@ -109,7 +104,6 @@ fn time_crew<R: Threads + Sync + Clock>(
     granules: usize,
     crew: &mut [Claimer],
 ) -> io::Result<(u128, u128)>
-    requires granules { granules ≡ granules_of table.now }
     requires crew { All (λ c. IsOf table.now c) crew.old }
 {
     let claims = time_side_by_side(rt, table, granules, crew, true)?;
@@ -120,7 +114,7 @@ fn time_crew<R: Threads + Sync + Clock>(
 // The same of so many helpers on a table of their own.
 fn cost<R: Threads + Sync + Clock>(rt: &R, alloc: Global, helpers: u8) -> io::Result<(u128, u128)> {
     let marks = Marks::new(alloc, MAX_PAGES)?;
-    let Ok((table, mut first)) = MarkTable::new(alloc, &marks, MAX_PAGES) else {
+    let Ok((table, mut first)) = MarkTable::new(alloc, &marks) else {
         return Err(AllocError.into());
     };
     let mut crew = hire(alloc, &table, &mut first, helpers)?;

@@ -53,6 +53,5 @@ pub(crate) fn helpers_given(given: &ArgMatches<'_>) -> Result<Helpers, Fault>
         Some(_) => number_given(given, "helpers", 1, u64::from(MAX_HELPERS))?,
         None => 1,
     };
-    let helpers = Helpers::new(number as u8).ok_or(Fault::BadCommand)?;
-    Ok(helpers.where_it_pays())
+    Helpers::new(number as u8).ok_or(Fault::BadCommand)
 }

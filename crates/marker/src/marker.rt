@@ -91,7 +91,7 @@ impl Marker {
         ensures invariant { (found : ℕ → Option Found) (words : List ℕ) → DirtyPageInvariant found words self.new }
         ensures carried { (found : ℕ → Option Found) (words : List ℕ) → CarriedPageInvariant found words self.new }
     {
-        self.marks.clear_all(used);
+        self.marks.clear_used(used);
         self.dirty.clear_all();
         self.carried.clear_all();
         self.current = None;

@@ -27,7 +27,7 @@ impl Marker {
         // There is a granule, and a table has the words of one page at least.
         let _granules = self.marks.granules();
         let held = if used == 0 { 1 } else { used };
-        MarkTable::new(alloc, &self.marks, held)
+        MarkTable::of_used(alloc, &self.marks, held)
     }
 
     /// The dirty pages.

@@ -236,7 +236,7 @@ module _ (t : Store) (sound : HasSoundPages t) (laid : IsLaid t.states) (lawful 
   cut_agree = record {
     size = cuts.taken.size ∙ sound.agree.size ∙ sym size;
     free_in_map = λ p is. ⊎_elim
-        (λ (e : p ≡ page). absurd (let no : get_or free' p false ≡ false = cuts.taken.inside p (omega arith) (omega arith) in let z : false ≡ true = sym no ∙ is in cc))
+        (λ (e : p ≡ page). absurd (let no : get_or free' p false ≡ false = cuts.taken.inside p (omega arith) (omega arith) (let fits = cuts.run.inside in omega arith) in let z : false ≡ true = sym no ∙ is in cc))
         (λ ne. other p ne ∙ sound.agree.free_in_map p (sym (cuts.taken.others p (out p ne)) ∙ is))
         (cases_eq p page);
     free_in_pool = λ p lt is. ⊎_elim
@@ -340,7 +340,7 @@ module _ (t : Store) (sound : HasSoundPages t) (laid : IsLaid t.states) (lawful 
     agree = record {
       size = taken_run.size ∙ sound.agree.size ∙ sym span.size;
       free_in_map = λ p is. ⊎_elim
-          (λ h. absurd (let no : get_or free' p false ≡ false = taken_run.inside p h.0 h.1 in let z : false ≡ true = sym no ∙ is in cc))
+          (λ h. absurd (let no : get_or free' p false ≡ false = taken_run.inside p h.0 h.1 (let fits = run.inside in let below = h.1 in omega arith) in let z : false ≡ true = sym no ∙ is in cc))
           (λ out. span.others p out ∙ sound.agree.free_in_map p (sym (taken_run.others p out) ∙ is))
           (place_of first n p);
       free_in_pool = λ p lt is. ⊎_elim

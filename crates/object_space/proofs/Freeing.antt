@@ -123,9 +123,6 @@ module _ (words : List ℕ) (t : PageTable) (whole : IsWholeSpace (store_with wo
   large : (k : Kind) × (state_at t.map f.page ≡ head (f.len / PAGE_WORDS) k) × (0 < f.len / PAGE_WORDS) × (f.page + f.len / PAGE_WORDS ≤ length t.map) × (f ≡ large_object f.page (f.len / PAGE_WORDS) k)
   large = large_here (store_with words t) f lawful found not_cut
 
-  pub large_fits : f.page + f.len / PAGE_WORDS ≤ length t.pool
-  large_fits = let ends = large.3 in let size = whole.sound.agree.size in omega (arith, ends, size)
-
   module _ (free' : List Bool) (map' : List PageState) (states : IsSpanSet t.map map' f.page (span_of (state_at t.map f.page)) (λ _. free)) (uncut : IsUncut f.page (state_at t.map f.page) (found_in t.map) (found_in map'))
       (given : IsFilled t.pool free' f.page (f.len / PAGE_WORDS) true) where
     abbrev without : PageTable

@@ -125,7 +125,7 @@ fn claim_all<R: Threads + Sync>(
     ensures ok { OnOk result (IsFullRow marks.new) }
     ensures err { OnErr result (marks.new ≡ marks.old) }
 {
-    let (table, mut first) = MarkTable::new(alloc, marks, PAGES)?;
+    let (table, mut first) = MarkTable::new(alloc, marks)?;
     let Ok(mut crew) = hire(alloc, &table, &mut first, helpers) else {
         return Err(OpenError::Memory);
     };

@@ -17,6 +17,8 @@ mod heap;
 #[cfg(test)]
 mod helpers;
 #[cfg(test)]
+mod owners;
+#[cfg(test)]
 mod scene;
 #[cfg(test)]
 mod shares;

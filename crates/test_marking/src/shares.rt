@@ -1,5 +1,4 @@
-//! What each of two helpers claims of a pause: the objects of its own root words, before anything else, by calls numbered
-//! from 0.
+//! What each of two helpers claims of a pause: what its own root words point into before anything else, by calls numbered from 0.
 use crate::scene::Scene;
 use final_pause::{FIRST_HELPER, Gate, Helpers};
 use std::process::Abort;
@@ -18,10 +17,6 @@ const SECOND_HELPER: u8 = FIRST_HELPER + 1;
 
 /// Pointer-free objects, and the places of root words that point into them.
 pub(crate) const OBJECTS: usize = 6;
-
-const EVEN: [bool; OBJECTS] = [true, false, true, false, true, false];
-
-const ODD: [bool; OBJECTS] = [false, true, false, true, false, true];
 
 const ALL: [bool; OBJECTS] = [true; OBJECTS];
 
@@ -144,24 +139,6 @@ pub(crate) fn close_by_two(
     scene.heap.close_with(rt, &roots, helpers, &gate);
     gate.assert_made(rt, first, second);
     Ok(())
-}
-
-// The objects at even places are claimed by the first helper alone, and those at odd places by the second.
-fn claim_their_own(
-    rt: &(impl Abort + Threads + Wait + Sync),
-    scene: &mut Scene,
-) -> Result<(), Fail> {
-    scene.lay(rt, &[(0, 2, Kind::PointerFree, OBJECTS as u16)])?;
-    scene.heap.begin();
-    close_by_two(rt, scene, EVEN, 3, 0)?;
-    scene.heap.begin();
-    close_by_two(rt, scene, ODD, 0, 3)
-}
-
-#[test]
-fn each_helper_claims_at_its_own_places(rt: HostRuntime) -> Result<(), Fail> {
-    let mut scene = Scene::open(rt.alloc(), 1)?;
-    claim_their_own(&rt, &mut scene)
 }
 
 // Pauses of one cycle, in which the later finds what the earlier marked, and one of the next.

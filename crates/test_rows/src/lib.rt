@@ -20,6 +20,8 @@ mod finding;
 #[cfg(test)]
 mod finding_2;
 #[cfg(test)]
+mod finding_3;
+#[cfg(test)]
 mod full_mark_stack;
 #[cfg(test)]
 mod linking;

@@ -31,7 +31,7 @@ returns-then-claim g c w points =
     c.requires.helper.ready.map c.requires.helper.ready.granules points k.of k.waiting k.dirty k.carried k.place
     (record { right = k.learns.right ∙ s.learns.right; known = λ j e. k.learns.known j (s.learns.known j e) })
     (ap (λ (j : ℕ). knows (view c.claim.new.helper.claimer) j) (sym is) ∙ k.known)
-    (ap (λ (j : ℕ). knows (view c.args.helper.now.claimer) j) (sym is) ∙ false_from_ne_true (knows (view c.args.helper.now.claimer) n) (λ e. true≢false (sym (s.known e) ∙ c.if-is_set.false)))
+    (ap (λ (j : ℕ). knows (view c.args.helper.now.claimer) j) (sym is) ∙ false_from_ne_true (knows (view c.args.helper.now.claimer) n) (λ e. true≢false (sym (s.known c.granule-granule.ensures.inside e) ∙ c.if-is_set.false)))
     (k.won ∙ (ap (λ (b : Bool). if b then n ∷ won else won) c.if-claim.true ∙ (ap (λ (j : ℕ). j ∷ won) is ∙ ap (λ (l : List ℕ). granule c.args.found.base ∷ l) s.won)))
     c.queue.ensures
 

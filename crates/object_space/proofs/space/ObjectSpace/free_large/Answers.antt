@@ -1,8 +1,5 @@
-use Rattle.object_space.proofs.Freeing.{large_fits, loses_pages, whole_large}
+use Rattle.object_space.proofs.Freeing.{loses_pages, whole_large}
 use Rattle.object_space.proofs.space.ObjectSpace.free_large.Goals as goal
-
-pub give-requires : goal.give-requires
-give-requires c = large_fits c.self.inside.memory c.self.inside.table c.self.invariant c.laws.ensures.laid c.args.found (rw (← c.self.view_is) at c.requires.found) (rw (← c.self.view_is) at c.requires.lawful) (rw (← c.self.view_is) at c.requires.uncut)
 
 pub invariant_of-self : goal.invariant_of-self
 invariant_of-self c = whole_large c.self.inside.memory c.self.inside.table c.self.invariant c.laws.ensures.laid c.args.found (rw (← c.self.view_is) at c.requires.found) (rw (← c.self.view_is) at c.requires.lawful) (rw (← c.self.view_is) at c.requires.uncut) c.give.new.self c.uncut.new.self c.uncut.ensures.states c.uncut.ensures.uncut c.give.ensures
