@@ -7,8 +7,7 @@
 # - 200 mutators alone are answered in a thread of their own as by a script;
 # - of 20 scripts of 2,003 lines each line is answered, and each is a workload of three mutators;
 # - 200 runs of two mutators and the collector at one link (tests/random/links.py);
-# - four mutators beside a hundred cycles, ended by one helper and by four, over enough words for these to start once mutator 0 has
-#   made its objects: each load answers what was stored;
+# - four mutators beside a hundred cycles, ended by one helper and by four: each load answers what was stored;
 # - 50 scripts of 3,004 lines, and 1,000 orders of calls round one object (tests/random/orders.py), are legal as they are recorded.
 # Over a proved build (tests/builds.sh) it takes some seconds. It needs Python 3.
 set -uo pipefail

@@ -1,6 +1,6 @@
 #!/usr/bin/env bash
 # What holds where memory is refused, in the program and the tests that 'rt ci' left: each request of a run is refused alone, the
-# first, the second and on until a run asks for no more. A row's calls on an open heap ask for none. And each command runs on a small
+# first, the second and on until a run asks for no more. Calls on an open heap ask for none. And each command runs on a small
 # stack, as docs/SCRIPTS.md says. It needs cc.
 set -uo pipefail
 kind="refused memory"
@@ -79,6 +79,27 @@ after_open() {
     echo "$kind: $((from - 1)) requests of open, and none of a row's calls behind it"
 }
 
+# rows_ask_for_none: a row's calls on an open heap ask for no memory, whichever they are: its script is answered as ever where every request is
+# refused from the first one on that a script without lines doesn't make.
+rows_ask_for_none() {
+    local name pages asked
+    is_there "$program" || return
+    mkdir "$room/rows"
+    "$top/tests/rows/split" -v "room=$room/rows" "$top"/tests/rows/*.rows >"$room/names"
+    : >"$room/no_lines"
+    for asked in $(seq 0 999); do
+        refuse 60 "REFUSE_FROM=$((asked + 1))" "$program" run --pages 1 "$room/no_lines"
+        [ "$refused" != 0 ] || break
+    done
+    [ "$asked" -gt 0 ] || is "requests of a script without lines" some none
+    while read -r name pages; do
+        refuse 60 "REFUSE_FROM=$((asked + 1))" "$program" run --pages "$pages" "$room/rows/$name"
+        is "$name, on a heap that is open: status, requests" "0 0" "$status $refused"
+        is "$name, on a heap that is open: replies" "" "$(cmp "$room/out" "$room/rows/$name.stdout" 2>&1)"
+    done <"$room/names"
+    echo "$kind: $(wc -l <"$room/names") rows ask for nothing behind the $asked requests of a script without lines"
+}
+
 # on_small_stack LINES WORDS..: the program prints these lines on a stack of 128 KB.
 on_small_stack() {
     local lines=$1
@@ -114,4 +135,5 @@ on_small_stack "$stored/first.verdict" replay --pages 1 "$stored/first.replay"
 on_small_stack "$stored/first.run" record --pages 1 "$stored/first.script"
 on_small_stack "$stored/lazy_sweep.trace" draw --pages 4 "$stored/lazy_sweep.script"
 after_open
+rows_ask_for_none
 close

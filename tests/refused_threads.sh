@@ -1,26 +1,27 @@
 #!/usr/bin/env bash
 # What holds where the start of a thread is refused, each start in turn, in the program and the tests that 'rt ci' left. It needs
-# cc, and takes some seconds. The first thread starts the mutators and then the collector. Over so few words no helper of a pause
-# starts; in `refused_helpers` of test_workloads they start at once.
+# cc, and takes some seconds. The first thread starts the mutators and then the collector, and this one starts the helpers of a pause.
 set -uo pipefail
 kind="refused threads"
 # shellcheck source=tests/refused/parts.sh
 . "$(dirname "$(readlink -f "${BASH_SOURCE[0]}")")/refused/parts.sh"
 program=$crates/mpheap/out/mpheap
 
-# actors MUTATORS: the start of each actor is refused in turn, and at last none. The workload may have eight helpers, of which
-# none starts. Each run ends within two seconds.
+# actors MUTATORS: the start of each actor is refused in turn, then that of each of seven helpers, without whom the collector marks alone (the
+# eighth is the collector's own thread), and at last none. Each run ends within two seconds.
 actors() {
-    local start starts replies
+    local start starts replies helpers=7
     starts=$(($1 + 1))
     seq "$1" | sed 's/.*/attach/' >"$room/workload"
     seq 0 $(($1 - 1)) | sed 's/$/ alloc 1 2 normal/' >>"$room/workload"
     printf 'gc begin\ngc finish\ngc no\n' >>"$room/workload"
     replies=$(seq 0 $(($1 - 1)) | sed 's/.*/mutator &\nok/' && printf 'collector\nok\n0\n1\n')
-    for start in $(seq $((starts + 1))); do
+    for start in $(seq $((starts + helpers + 1))); do
         refuse 2 "REFUSE_START=$start" "$program" threads --pages 4 --helpers 8 "$room/workload"
         if [ "$start" -le "$starts" ]; then
             is "$1 mutators, start $start" "1 1 |no memory" "$refused $status $(cat "$room/out")|$said"
+        elif [ "$start" -le $((starts + helpers)) ]; then
+            is "$1 mutators, start $start" "1 0 $replies|" "$refused $status $(cat "$room/out")|$said"
         else
             is "$1 mutators, start $start" "0 0 $replies|" "$refused $status $(cat "$room/out")|$said"
         fi
