@@ -1,20 +1,26 @@
 /* Memory that the caller lends to the calls of one thread, for where malloc can't be asked: while other threads are stopped, one of them
- * may have its locks. Nothing here takes a lock or makes a call of the system, but where the memory is put away.
+ * may have its locks. Nothing here takes a lock or makes a call of the system, but where the memory is put away, and to clear a mapping.
  *
- * Trusted, not proved: that no two blocks overlap, and that each is aligned to 16. What was given back is given out again: free blocks
- * stand in a list by their addresses, and neighbours are made one. A block isn't cleared: who wants zeros writes them (memory.c). */
+ * Trusted, not proved: that no two blocks overlap, and that each is aligned to 16; and of a private mapping without a file that a page is 0
+ * once the kernel was given it back. What was given back is given out again: free blocks stand in a list by their addresses, and neighbours
+ * are made one. A block isn't cleared: who wants zeros writes them, or asks for that (memory.c). */
+#ifndef _GNU_SOURCE
+#define _GNU_SOURCE
+#endif
 #include "lent.h"
 #include "mpheap.h"
 #include <stdint.h>
 #include <stdlib.h>
 #include <string.h>
+#include <sys/mman.h>
+#include <unistd.h>
 
 /* A block has its head before it: all its bytes, and the next free one, if it is free. What malloc gave has `later` in its first bytes. */
 struct block { size_t bytes; struct block *next; };
 struct later { struct later *next; };
 
 /* The memory begins with this. `free` has no bytes of its own, and stands before the first free block. */
-struct lent { struct block free; struct later *later; size_t bytes; };
+struct lent { struct block free; struct later *later; size_t bytes; bool is_mapping; };
 
 enum { UNIT = sizeof(struct block), HEAD = (sizeof(struct lent) + UNIT - 1) / UNIT * UNIT };
 
@@ -26,11 +32,17 @@ void mpheap_lend_memory(void *at, size_t bytes) {
     struct lent *lent = at;
     struct block *all = (struct block *)((char *)at + HEAD);
     lent->bytes = bytes;
+    lent->is_mapping = false;
     lent->later = NULL;
     lent->free.bytes = 0;
     lent->free.next = all;
     all->bytes = (bytes - HEAD) / UNIT * UNIT;
     all->next = NULL;
+}
+
+void mpheap_lend_mapping(void *at, size_t bytes) {
+    mpheap_lend_memory(at, bytes);
+    ((struct lent *)at)->is_mapping = true;
 }
 
 /* What malloc gave is freed once this is allowed again. */
@@ -76,6 +88,17 @@ void *mpheap_ask_lent(size_t bytes) {
 
 static bool is_ours(void *at) {
     return (char *)at >= (char *)used && (char *)at < (char *)used + used->bytes;
+}
+
+/* Of a large row little is written before it goes again, so few of its pages are there to be taken. Locked ones the kernel refuses. */
+bool mpheap_clear_lent(void *at, size_t bytes) {
+    if (used == NULL || !used->is_mapping || !is_ours(at)) return false;
+    uintptr_t page = (uintptr_t)sysconf(_SC_PAGESIZE), from = (uintptr_t)at, to = from + bytes;
+    uintptr_t first = (from + page - 1) / page * page, end = to / page * page;
+    if (first >= end || madvise((void *)first, end - first, MADV_DONTNEED) != 0) return false;
+    memset(at, 0, first - from);
+    memset((void *)end, 0, to - end);
+    return true;
 }
 
 /* A block and the one behind it in the list are one, if nothing lies between them. */

@@ -13,6 +13,10 @@ void *mpheap_ask_lent(size_t bytes);
 /* The same with the first bytes of what was asked for there, which is given back; or null, and nothing has changed. */
 void *mpheap_grow_lent(void *at, size_t kept, size_t bytes);
 
+/* So many bytes of what was asked for become 0 with no write to most of them, or nothing has changed: where the memory is mapped and the
+ * kernel takes whole pages of it. */
+bool mpheap_clear_lent(void *at, size_t bytes);
+
 /* What was asked for is given back, to the memory or, when that is used no longer, to malloc, which it came from. */
 void mpheap_give_back_lent(void *at);
 #endif

@@ -3,7 +3,8 @@
  *
  * Trusted, not proved: the library's proofs take it that what these three answer is memory of so many bytes, aligned to 16 or
  * less, that nobody else uses until it is given back, and that a growth keeps the bytes that were there. And that memset
- * leaves the byte in each place: what was just mapped, or came from calloc, has 0 in each, and is not written again. */
+ * leaves the byte in each place: what was just mapped, or came from calloc, has 0 in each, and is not written again; nor are
+ * whole pages of a lent mapping, which the kernel clears. */
 #ifndef _GNU_SOURCE
 #define _GNU_SOURCE
 #endif
@@ -116,6 +117,7 @@ static void *set_first(int byte, size_t bytes) {
 /* Each new object is cleared by a call of this too, so it does nothing first but look at the address. */
 void *mpheap_memset(void *at, int byte, size_t bytes) {
     if (at == first_address()) return set_first(byte, bytes);
+    if (bytes >= LARGE && byte == 0 && mpheap_clear_lent(at, bytes)) return at;
     if (at != fresh || at == NULL) return memset(at, byte, bytes);
     fresh = NULL;
     return byte == 0 && bytes + LAST == fresh_bytes ? at : memset(at, byte, bytes);

@@ -373,11 +373,15 @@ uint32_t mpheap_gather(mpheap_shares *all, mpheap *heap);
 /* ---- Memory that the caller lends ----
  *
  * The calls of a thread that ask for memory ask malloc for it, but while the thread uses memory that was lent: then they ask for that alone,
- * and neither malloc nor the system. So no lock is taken, which a stopped thread may have. */
+ * and neither malloc nor the system for any. So no lock is taken, which a stopped thread may have. */
 
 /* So many bytes, at least 4,096, at an address that is divisible by 16 are made ready to be used: all of them are free. Nothing is read
  * there. To be called again only where nothing of the memory is in use. */
 void mpheap_lend_memory(void *at, size_t bytes);
+
+/* The same of what mmap has mapped private and without a file (MAP_PRIVATE | MAP_ANONYMOUS). Large rows of zeros in it are had from the
+ * kernel, by MADV_DONTNEED, and not written. */
+void mpheap_lend_mapping(void *at, size_t bytes);
 
 /* From now on the calls of this thread use the memory that begins there, and was made ready; or, where `at` is null, malloc again. Where it
  * has no room, NO_MEMORY. What they give back goes where it came from: what malloc gave before is freed when this is called with null. So

@@ -6,9 +6,9 @@
  * They are 64 lists, of which each takes every 64th object; or a tree, made from the top, whose branches lie one behind the other; or
  * one made from its leaves, so that each object lies behind its branches; or one whose objects lie in random places; or
  * they hang from an array, in random order. Printed are, of 10 collections, the median and the longest stop, the median and the longest
- * GC_gcollect, all in microseconds on the wall, and how many objects are still there. A stop is from the moment that bdwgc says it
- * stops the world to that at which it says it has started it; libmpgc doesn't say, and its GC_gcollect is one stop but for some
- * microseconds. The second thread sleeps: with it both libraries make markers, as many as GC_MARKERS says, or it fails. */
+ * GC_gcollect, all in microseconds on the wall, and how many objects are still there. A stop is from the moment that the library says it
+ * stops the world to that at which it says it has started it. In a GC_gcollect right behind another libmpgc lets other threads run
+ * first, for a millisecond. The second thread sleeps: with it both libraries make markers, as many as GC_MARKERS says, or it fails. */
 #define _GNU_SOURCE
 #define GC_THREADS
 #include <pthread.h>

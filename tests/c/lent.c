@@ -1,10 +1,13 @@
 /* Memory that the caller lends (c/lent.c): blocks that come, grow and go at random, beside a shadow of what stands in each; what malloc
  * gave; zeros; and a heap that lives in it, with each request refused in turn as it becomes smaller. */
+#define _GNU_SOURCE
 #include "../../c/lent.h"
 #include "check.h"
 #include "mpheap.h"
 #include <stdlib.h>
 #include <string.h>
+#include <sys/mman.h>
+#include <unistd.h>
 
 typedef struct {
     bool ok;
@@ -111,6 +114,50 @@ static void a_row_is_cleared(void) {
     mpheap_use_memory(NULL);
 }
 
+/* Of a mapping the same, wherever a row begins and ends, and nothing else is cleared: not what lies beside the row, nor a row of other bytes, nor
+ * one that isn't of it. Pages that are locked are written. */
+static void a_row_of_a_mapping_is_cleared(bool is_locked) {
+    unsigned char *mapped = mmap(NULL, BYTES, PROT_READ | PROT_WRITE, MAP_PRIVATE | MAP_ANONYMOUS, -1, 0);
+    if (mapped == MAP_FAILED || (is_locked && mlock(mapped, BYTES) != 0)) return; /* as much as may be locked */
+    size_t wrong = 0;
+    memset(mapped, 7, BYTES);
+    memset(room, 7, BYTES);
+    mpheap_lend_mapping(mapped, BYTES);
+    mpheap_use_memory(mapped);
+    for (size_t bytes = 16000; bytes < 70000; bytes += 1000 + draw(3000)) {
+        unsigned char *row = rattle_alloc(bytes, 8).at, *next = rattle_alloc(100, 8).at;
+        memset(row, 7, bytes);
+        memset(next, 7, 100);
+        IS(mpheap_memset(row, 0, bytes - 8) == row, 1);
+        for (size_t b = 0; b < bytes; b++) wrong += row[b] != (b < bytes - 8 ? 0 : 7);
+        for (size_t b = 0; b < 100; b++) wrong += next[b] != 7;
+        mpheap_memset(row, 5, bytes - 8);
+        for (size_t b = 0; b < bytes; b++) wrong += row[b] != (b < bytes - 8 ? 5 : 7);
+        rattle_dealloc(row);
+    }
+    mpheap_memset(room + 100, 0, 50000);
+    for (size_t b = 0; b < BYTES; b++) wrong += room[b] != (b >= 100 && b < 50100 ? 0 : 7);
+    IS(wrong, 0);
+    mpheap_use_memory(NULL);
+    munmap(mapped, BYTES);
+}
+
+/* Few of the pages of a row that is cleared again are there. */
+static void a_cleared_row_is_not_written(void) {
+    unsigned char there[BYTES / 4096], *mapped = mmap(NULL, BYTES, PROT_READ | PROT_WRITE, MAP_PRIVATE | MAP_ANONYMOUS, -1, 0);
+    size_t count = 0;
+    if (mapped == MAP_FAILED || sysconf(_SC_PAGESIZE) != 4096) return;
+    memset(mapped, 7, BYTES);
+    mpheap_lend_mapping(mapped, BYTES);
+    mpheap_use_memory(mapped);
+    mpheap_memset(rattle_alloc(BYTES / 2, 8).at, 0, BYTES / 2 - 8);
+    IS(mincore(mapped, BYTES / 2, there), 0);
+    for (size_t page = 0; page < sizeof there / 2; page++) count += there[page] & 1;
+    IS(count <= 3, 1);
+    mpheap_use_memory(NULL);
+    munmap(mapped, BYTES);
+}
+
 /* What came before keeps its bytes, and goes back to where it came from: the sanitizers see a leak or a wrong free. */
 static void what_malloc_gave_goes_back(void) {
     unsigned char *small = rattle_alloc(40, 8).at, *grown = rattle_alloc(40, 8).at, *large = rattle_alloc(50000, 8).at;
@@ -160,6 +207,9 @@ int main(void) {
     if (room == NULL) return 9;
     blocks_keep_their_bytes();
     a_row_is_cleared();
+    a_row_of_a_mapping_is_cleared(false);
+    a_row_of_a_mapping_is_cleared(true);
+    a_cleared_row_is_not_written();
     what_malloc_gave_goes_back();
     a_heap_lives_in_it();
     free(room);
