@@ -86,13 +86,14 @@ static uint64_t reread_lowest(void)
 }
 
 // Counted under the rest.
-// The lowest open pages are closed, and these read again; or some dirty ones, where none is to be closed: all before the lock is given
-// back. Answers how many were read.
+// The lowest open pages are closed, no more than the batch still has, and these read again; or some dirty ones, where none is to be closed: all
+// before the lock is given back. Answers how many were read.
 static uint64_t reread(void)
 {
-    enum { STOPPED = 16, BESIDE = 8 };
-    size_t most = mpgc_world_is_stopped() ? STOPPED : BESIDE;
+    enum { STOPPED = 256, BESIDE = 8 };
+    size_t most = mpgc_world_is_stopped() ? STOPPED : BESIDE, left = mpgc_left_in_batch();
     uint64_t read = 0;
+    if (left < most) most = left;
     if (mpgc_is_one_to_close()) {
         read = reread_pages(mpgc_close_lowest(most));
     } else {

@@ -38,3 +38,15 @@ bool mpgc_is_held_back(const struct thread *one, int signal)
     errno = kept;
     return has(text, "SigPnd:", signal) && !has(text, "SigBlk:", signal);
 }
+
+// Whether one that asked behind its goodbye sleeps in the C library's last moments of a thread, where it blocks all signals, also those of faults:
+// it touches no object any more, and waits for a lock, as of malloc, that a stopped thread may have.
+bool mpgc_is_leaving(const struct thread *one, int signal)
+{
+    char text[4096];
+    if (!one->is_late) return false;
+    int kept = errno;
+    read_status(one->number, text, sizeof text);
+    errno = kept;
+    return strstr(text, "State:\tS") && has(text, "SigPnd:", signal) && has(text, "SigBlk:", signal) && has(text, "SigBlk:", SIGSEGV);
+}

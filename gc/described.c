@@ -175,12 +175,13 @@ bool mpgc_read_those(uint64_t *left)
     return to_read == 0;
 }
 
-// All that the object points to is a root, but it itself only if it may be.
+// All that the object points to is a root, but it itself only if it may be: else of a described one every word is read, as with bdwgc, since what
+// it pushes isn't told from it.
 void mpgc_mark_from_words(uintptr_t base, size_t words, bool with_itself)
 {
     const struct described *one = at_base(base);
-    if (one) read_one(one);
-    if (mpgc_kind_at(base) != ORDINARY) return;
+    if (one && with_itself) read_one(one);
+    if (mpgc_kind_at(base) != ORDINARY && (!one || with_itself)) return;
     for (const uint64_t *word = (const uint64_t *)base, *end = word + words; word < end; word++)
         if (with_itself || *word - base >= words * WORD) mpgc_mark_from(*word);
 }

@@ -44,6 +44,7 @@ void mpgc_mark_words(void)
 {
     GRANTED(mpheap_roots(&mpgc.heap));
     for (uint64_t alone = mpgc_begin_rounds(); mark_some(alone);) alone = mpgc_mark_in_rounds();
+    mpgc_stand_down();
 }
 
 // The same, with what the words of described objects lead to. Then the stack is empty.
@@ -67,11 +68,14 @@ void mpgc_end_marks(void)
     mpgc_begin_reading();
     mpgc_mark_all();
     mpgc_mark_toggled();
+    mpgc_mark_from_disclaimed();
     mpgc_mark_all();
     mpgc_decide_links(false);
     mpgc_find_ready();
     mpgc_mark_all();
     mpgc_decide_links(true);
+    mpgc_find_disclaimed();
+    mpgc_mark_all();
     mpgc_drop_described();
     mpgc_take_roots(false, false);
     is_ending = false;

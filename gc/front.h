@@ -126,13 +126,15 @@ HIDDEN size_t mpgc_words_taken_back(bool begins_anew);
 HIDDEN void mpgc_know_more(uintptr_t base);
 
 // And these. Whether a cycle marks, there was ever a second thread, every other one has ended, and the program has ever said where a thread's
-// stack ends; one that was stopped hasn't gone on yet; the links that stand, and the described objects; this thread, if it is known, and its stack, as the program or the C library says where it ends.
+// stack ends; one that was stopped hasn't gone on yet; a stop would wait for no thread; the links that stand, and the described objects; this
+// thread, if it is known, and its stack, as the program or the C library says where it ends.
 HIDDEN bool mpgc_is_marking(void);
 HIDDEN bool mpgc_is_threaded(void);
 HIDDEN bool mpgc_is_last_thread(void);
 HIDDEN bool mpgc_has_lock(void);
 HIDDEN bool mpgc_has_own_stacks(void);
 HIDDEN bool mpgc_is_one_standing(void);
+HIDDEN bool mpgc_stops_nobody(void);
 HIDDEN size_t mpgc_count_links(void);
 HIDDEN size_t mpgc_count_described(void);
 HIDDEN void *mpgc_this_thread(void);

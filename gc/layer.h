@@ -1,7 +1,7 @@
 // What the audited files of libmpgc know of each other. x86-64, Linux, the GNU C library. Trusted, and not proved.
 //
 // Below them stands the proved heap of mpheap_c, above them a C program that knows bdwgc's gc.h, and may do what it likes. The proofs hold
-// for the program as far as these files keep what mpheap.h asks of a caller. They alone could lose an object or break memory: 3,622 lines
+// for the program as far as these files keep what mpheap.h asks of a caller. They alone could lose an object or break memory: 3,774 lines
 // of code in this folder, without blank ones and comments. Why names/ and kernel/ can't is said in front.h. This is all that they owe, in
 // the order in which they are best read, and the head of each says by which lines it pays:
 //
@@ -12,13 +12,14 @@
 //   signals.c              ".. and never from a signal handler that interrupted one of them", with CALL and GRANTED below, in which every
 //                          call stands; and a write to a closed page reaches the barrier
 //   protection.c pages.c   the barrier, which is the heart of the layer: "the address was told by mpheap_written first", while a cycle
-//                          marks; closed are pages of ordinary objects, and pages.c knows which
+//   pins.c                 marks; closed are pages of ordinary objects, and pages.c knows which; pins.c, to which the kernel writes
 //   spare.c                the same, while none does
 //   given.c                "the memory of a mapped heap's free pages may be given back to the system": of those alone
 //   requests.c runs.c      "any 64-bit word may be put at any 8-aligned address of an object that is kept at that moment": what is given
 //   reuse.c                out is an object that a request has just made, or the program just freed, once, and frees are the program's
 //   roots.c threads.c      what keeps it: every word by which the program may still reach an object is a root at a collection's end,
-//   locals.c linked.c      of each thread
+//   stacks.c locals.c      of each thread
+//   linked.c
 //   collect.c cycle.c      the core's calls in an order that keeps the last three
 //   markers.c rounds.c     the calls of several threads that mark, while the world is stopped
 //   ending.c described.c   of objects that the core doesn't read, each word that points is a root at a cycle's end
@@ -70,7 +71,6 @@ struct thread {
     bool is_detached;                      // nobody will ask what it answers
     bool is_late;                          // it has said goodbye before, and won't again
     unsigned holders;                      // so many are asking for it
-    unsigned goodbyes;
     atomic_uint stop;                      // the last stop to which it has answered (world.c)
     atomic_bool stands;                    // it has answered, and hasn't gone on since
     const char *volatile top;              // while it is stopped, blocked or collects: what it had is from here to the bottom
@@ -83,8 +83,7 @@ struct thread {
     struct behind { const char *returns, *stack; volatile sig_atomic_t leaves; } behind;  // the last call that it made under the lock
     bool stands_behind;                    // it was stopped there (behind.c)
     struct pin { struct pages { size_t from, to; } pages; const char *frame; } pinned[PINS];  // that the kernel may write to, by whose call
-    volatile size_t pins;
-    volatile sig_atomic_t changes_pins;
+    size_t pins;
     sigset_t signals;                      // that it blocks, once it runs
     void *(*start)(void *);
     void *data;                            // what it was given, until it runs, and what it answered, when it has ended
@@ -129,7 +128,7 @@ static inline struct run *mpgc_run_of(struct thread *thread, size_t granules, en
 }
 
 // Counted under threads.
-// start.c and threads.c. The heap is open, and this thread is known, by this record.
+// start.c, threads.c and stacks.c. The heap is open, and this thread is known, by this record.
 HIDDEN extern _Thread_local struct thread *mpgc_self __attribute__((tls_model("initial-exec")));
 HIDDEN void mpgc_open(void);
 static inline void mpgc_enter(void)
@@ -188,6 +187,7 @@ HIDDEN bool mpgc_is_behind(const struct thread *self, const ucontext_t *context)
 
 // delayed.c
 HIDDEN bool mpgc_is_held_back(const struct thread *one, int signal);
+HIDDEN bool mpgc_is_leaving(const struct thread *one, int signal);
 
 // Counted under the rest.
 // Every call of the core stands between two of these: the fault handler then only notes a page, and it is told here. The inner ones stand
@@ -233,7 +233,6 @@ static inline void mpgc_call_ends(void)
 // requests.c and runs.c
 HIDDEN void mpgc_free_in(uint64_t base);
 HIDDEN uint8_t mpgc_size_for(size_t granules);
-HIDDEN size_t mpgc_least_words(size_t words);
 HIDDEN bool mpgc_fill_run(struct run *run, size_t granules, enum page_kind kind);
 HIDDEN void mpgc_empty_runs(struct thread *thread);
 HIDDEN void mpgc_push_runs(const struct thread *thread, void (*push)(uint64_t word));
@@ -331,14 +330,18 @@ HIDDEN bool mpgc_is_one_to_close(void);
 HIDDEN struct pages mpgc_close_lowest(size_t most);
 HIDDEN bool mpgc_is_pinned(void);
 HIDDEN void mpgc_tell_pinned(void);
-HIDDEN void mpgc_drop_pins(struct thread *thread);
+HIDDEN void mpgc_lower_to(size_t page);
 HIDDEN void mpgc_stop_closing(void);
 HIDDEN void mpgc_open_all(void);
+
+// pins.c
+HIDDEN void mpgc_drop_pins(struct thread *thread);
 
 // signals.c. The C library's sigaction by its other name, since kernel/handlers.c takes that one for the program.
 extern int __sigaction(int number, const struct sigaction *next, struct sigaction *old);
 HIDDEN void mpgc_take_faults(void);
 HIDDEN void mpgc_block_signals(sigset_t *old);
+HIDDEN void mpgc_block_handlers(sigset_t *old);
 HIDDEN void mpgc_restore_signals(const sigset_t *old);
 
 // Counted under marking side by side.
@@ -353,6 +356,8 @@ HIDDEN void mpgc_has_done(unsigned which);
 HIDDEN void mpgc_open_shares(void);
 HIDDEN void mpgc_forget_shares(void);
 HIDDEN void mpgc_work(unsigned which);
+HIDDEN void mpgc_call_up(void);
+HIDDEN void mpgc_stand_down(void);
 HIDDEN void mpgc_dismiss_markers(void);
 HIDDEN void mpgc_lose_markers(void);
 HIDDEN uint64_t mpgc_begin_rounds(void);

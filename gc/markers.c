@@ -24,7 +24,10 @@
 #include <time.h>
 #include <unistd.h>
 
-enum { SPINS = 2000, MOMENT = 20000000 };  // the last in nanoseconds
+enum { MOMENT = 20000000 };  // nanoseconds
+// So often a thread that waits looks, of so many glances each, before it sleeps: for a tenth of a millisecond, or some milliseconds while the
+// markers are called up. Between two looks other threads are let go first.
+enum { GLANCES = 500, LOOKS = 4, MANY_LOOKS = 400 };
 #define STACK_BYTES ((size_t)2 << 20)
 // What the core asks for: some hundred KB for each helper, and some 32 bytes a page. What isn't used takes no memory of the machine.
 #define LENT_BYTES (((size_t)MPHEAP_MAX_HELPERS << 21) + MAX_PAGES * 64)
@@ -40,6 +43,7 @@ static bool is_tried;            // no more will come
 static _Atomic uint32_t alive;   // so many were made, and haven't ended
 static _Atomic uint32_t here;    // and so many of these have begun
 static atomic_bool go;           // they are to end
+static atomic_bool is_up;        // they are called up
 static void *lent;               // the first marker's memory
 static atomic_bool has_opened;   // it has opened the handles of shares there, or as many as it could
 
@@ -52,17 +56,32 @@ static long wait_while(_Atomic uint32_t *word, uint32_t value, const struct time
     return mpgc_call_kernel(SYS_futex, word, FUTEX_WAIT_PRIVATE, value, most, NULL, 0);
 }
 
+static void wake(_Atomic uint32_t *word) { mpgc_call_kernel(SYS_futex, word, FUTEX_WAKE_PRIVATE, INT32_MAX, NULL, NULL, 0); }
+
 static void change(_Atomic uint32_t *word, uint32_t value)
 {
     *word = value;
-    mpgc_call_kernel(SYS_futex, word, FUTEX_WAKE_PRIVATE, INT32_MAX, NULL, NULL, 0);
+    wake(word);
 }
 
-// The word becomes another one: for a while it is looked at, since a turn is short.
+static void look(const _Atomic uint32_t *word, uint32_t than)
+{
+    for (int k = 0; k < GLANCES && *word == than; k++) __builtin_ia32_pause();
+    if (*word == than) mpgc_call_kernel(SYS_sched_yield);
+}
+
+// The word becomes another one. It is looked at for a while, since a turn is short, and to be woken may take longer than that. Who is woken
+// and finds it as it was looks again.
 static uint32_t wait_for_other(_Atomic uint32_t *word, uint32_t than)
 {
-    for (int k = 0; k < SPINS && *word == than; k++) __builtin_ia32_pause();
-    while (*word == than) wait_while(word, than, NULL);
+    for (int looks = 0; *word == than; looks++) {
+        if (looks < (is_up ? MANY_LOOKS : LOOKS)) {
+            look(word, than);
+        } else {
+            wait_while(word, than, NULL);
+            looks = 0;
+        }
+    }
     return *word;
 }
 
@@ -112,7 +131,7 @@ static bool has_memory(void)
     if (lent) return true;
     void *at = mmap(NULL, LENT_BYTES, PROT_READ | PROT_WRITE, flags, -1, 0);
     if (at == MAP_FAILED) return false;
-    mpheap_lend_memory(at, LENT_BYTES);
+    mpheap_lend_mapping(at, LENT_BYTES);
     lent = at;
     return true;
 }
@@ -172,6 +191,15 @@ void mpgc_call_markers(void)
 // So many there are beside the collecting thread: all that were made, or none as long as one of these hasn't begun.
 unsigned mpgc_markers(void) { return here == count ? count : 0; }
 
+// They will be told something soon: those that sleep are woken, and all look for longer until they stand down.
+void mpgc_call_up(void)
+{
+    is_up = true;
+    for (unsigned marker = 0; marker < count; marker++) wake(&workers[number_of(marker)].told);
+}
+
+void mpgc_stand_down(void) { is_up = false; }
+
 // The program's last thread ends, and the process with these.
 void mpgc_dismiss_markers(void)
 {
@@ -195,5 +223,6 @@ void mpgc_lose_markers(void)
     count = 0;
     alive = here = 0;
     is_tried = false;
+    is_up = false;
     if (!has_opened) forget_memory();
 }

@@ -11,7 +11,8 @@
 //
 //   A page that is not closed was told, or holds no ordinary object.
 //
-//   - A write to a closed page faults; `mpgc_let_write` tells the page (or notes it, under a call of the core), and only then opens it.
+//   - A write to a closed page faults; `mpgc_let_write` tells it and the closed ones beside it (or notes them, under a call of the core),
+//     and only then opens them.
 //   - `mpheap_begin` cleans every page. Most were closed before it, a few at a time; `mpgc_tell_open` tells the others of ordinary
 //     objects, before the program runs on. So no page is closed in the stop of a beginning.
 //   - `mpheap_retrace_page_beside` cleans the page that it is given and no other. It is given those that `mpgc_close_lowest` has just
@@ -21,8 +22,10 @@
 //   - A page that comes to hold ordinary objects while it is open is told then (pages.c).
 //   - A page that the core itself writes to under a call faults too. It is noted, and told when the call has returned, before the
 //     program writes there.
-//   - The kernel makes no fault. Pages to which it writes for a thread are pinned meanwhile: told and open, not closed, told when a cycle
-//     has begun as all open ones are, and anew behind retraces that may have cleaned them (`mpgc_tell_pinned`).
+//   - The kernel makes no fault. Pages to which it writes for a thread are pinned meanwhile (pins.c): told and open, not closed, told when a
+//     cycle has begun as all open ones are, and anew behind retraces that may have cleaned them (`mpgc_tell_pinned`).
+//   - No handler of the program comes between a page's telling and its opening, nor where pages that were noted are told: it might make a step,
+//     which cleans them.
 //
 // Why it holds beside several threads. Who tells, opens, closes or cleans a page has the lock, so these come one after the other. While a
 // cycle marks, pages are closed and cleaned only while no other thread runs (world.c), but for those of a step beside threads, below. Where two threads fault on one page, the first to
@@ -121,10 +124,13 @@ static size_t next_set(const volatile uint8_t *bytes, size_t from, size_t end)
     return found ? (size_t)(found - first) : end;
 }
 
-// A handler may note more while this runs: each look at the groups is one more round.
+// No handler of the program comes between: what is no more noted, and not yet told, would be neither if it ended the cycle.
 void mpgc_tell_noted(void)
 {
     uint64_t groups;
+    sigset_t old;
+    if (mpgc.noted == 0) return;
+    mpgc_block_signals(&old);
     while ((groups = atomic_exchange(&mpgc.noted, 0)) != 0) {
         for (; groups != 0; groups &= groups - 1) {
             size_t first = (size_t)__builtin_ctzll(groups) * GROUP, end = first + GROUP;
@@ -134,10 +140,11 @@ void mpgc_tell_noted(void)
             }
         }
     }
+    mpgc_restore_signals(&old);
 }
 
-// In one step, whatever a handler of the program opens meanwhile.
-static void lower_to(size_t page)
+// No lower one is open, of those that are to be closed. In one step, whatever a handler of the program opens meanwhile.
+void mpgc_lower_to(size_t page)
 {
     size_t seen = lowest_open;
     while (page < seen && !atomic_compare_exchange_weak(&lowest_open, &seen, page)) continue;
@@ -160,7 +167,7 @@ static void open_run(size_t page)
     while (first > 0 && mpgc.is_closed[first - 1]) first--;
     while (end < mpgc.size && mpgc.is_closed[end]) end++;
     for (size_t at = first; mpgc.is_marking && at < end; at++) tell(at);
-    lower_to(first);
+    mpgc_lower_to(first);
     if (!is_set(first, end - first, PROT_READ | PROT_WRITE)) mpgc_stop("the kernel refused to open pages of the heap");
     memset((void *)&mpgc.is_closed[first], 0, end - first);
 }
@@ -175,12 +182,6 @@ static void open_pages(size_t page, size_t count)
         open_run(page);
 }
 
-static void open_page(size_t page)
-{
-    lower_to(page);
-    open_pages(page, 1);
-}
-
 // Those of these pages that are closed, and no others: of pointer-free objects the program may have protected some itself.
 static void open_those(size_t first, size_t end)
 {
@@ -190,45 +191,65 @@ static void open_those(size_t first, size_t end)
     }
 }
 
-// The block in which the page lies.
+static void tell_those(size_t first, size_t end)
+{
+    for (size_t page = next_set(mpgc.is_closed, first, end); page < end; page = next_set(mpgc.is_closed, page + 1, end)) tell(page);
+}
+
+// Those of these pages that are closed are opened; and first, while a cycle marks, each of them is told.
+static void tell_and_open(size_t first, size_t end)
+{
+    if (mpgc.is_marking) tell_those(first, end);
+    mpgc_lower_to(first);
+    open_those(first, end);
+}
+
 static void open_block(size_t page)
 {
     size_t first = page - page % BLOCK;
-    lower_to(first);
-    open_those(first, first + BLOCK);
+    tell_and_open(first, first + BLOCK);
 }
 
-// Each closed page of the block is told.
-static void tell_block(size_t page)
+// This page, and those of its four that are closed too, one behind another, so that one call opens them. They are mostly written soon, and a fault
+// costs as much as to read three pages again.
+static void open_few(size_t page)
 {
-    size_t first = page - page % BLOCK, end = first + BLOCK;
-    for (size_t at = next_set(mpgc.is_closed, first, end); at < end; at = next_set(mpgc.is_closed, at + 1, end)) tell(at);
+    enum { FEW = 4 };
+    size_t lowest = page - page % FEW, first = page, end = page + 1;
+    while (first > lowest && mpgc.is_closed[first - 1]) first--;
+    while (end < lowest + FEW && mpgc.is_closed[end]) end++;
+    tell_and_open(first, end);
 }
 
-// A write to this closed page is to be made: it is told first, and then the page is opened.
+// A write to this closed page is to be made.
 void mpgc_let_write(size_t page)
 {
-    bool by_block = is_crowded() || !(mpgc.is_marking || is_closing);
-    if (mpgc.is_marking && by_block) tell_block(page);
-    if (mpgc.is_marking && !by_block) tell(page);
-    if (by_block)
+    if (is_crowded() || !(mpgc.is_marking || is_closing))
         open_block(page);
     else
-        open_page(page);
+        open_few(page);
 }
 
 static bool is_open_ordinary(size_t page) { return mpgc.kind[page] == ORDINARY && !mpgc.is_closed[page]; }
 
 static bool is_to_close(size_t page) { return is_open_ordinary(page) && mpgc.pins[page] == 0; }
 
-// Closes the run of pages from this one on that are to be closed, of at most so many, and answers the page after it. Where the kernel refuses
-// it, some of them may be closed by then: all stay open.
+// Closes the pages from this one on that are to be closed, at most so many, up to one that stays open, and answers the page after them. A few that
+// are closed already are set with them, by one call. Where the kernel refuses it, some of them may be closed by then: all are opened, and none
+// is closed.
 static size_t close_run(size_t page, size_t most)
 {
+    enum { BETWEEN = 16 };
     size_t end = page;
-    while (end < mpgc.size && end - page < most && is_to_close(end)) mpgc.is_closed[end++] = 1;
-    if (!is_set(page, end - page, PROT_READ)) open_pages(page, end - page);
-    return end;
+    for (size_t at = page; at < mpgc.size && most > 0 && at - end <= BETWEEN && (mpgc.is_closed[at] || is_to_close(at)); at++) {
+        if (mpgc.is_closed[at]) continue;
+        mpgc.is_closed[at] = 1;
+        end = at + 1;
+        most--;
+    }
+    if (is_set(page, end - page, PROT_READ)) return end;
+    open_run(page);
+    return page;
 }
 
 void mpgc_start_closing(void)
@@ -289,8 +310,8 @@ struct pages mpgc_close_lowest(size_t most)
 {
     bool is_one = mpgc_is_one_to_close() && !is_crowded();
     size_t page = lowest_open, end = is_one ? close_run(page, most) : page;
-    lowest_open = is_one && mpgc.is_closed[page] ? end : page;
-    return (struct pages){ page, lowest_open };
+    if (end > page) lowest_open = end;
+    return (struct pages){ page, end };
 }
 
 // Does the work, if there is one, with each page of ordinary objects that stays open for the kernel. Answers how many there are: a page
@@ -330,13 +351,19 @@ static size_t lowest_closed(void)
     return page;
 }
 
-// Where no cycle marks: the block of the lowest closed page is opened again. Answers whether there was one.
+// Where no cycle marks: the block of the lowest closed page is opened again. Answers whether there was one. A handler of the program might
+// begin a cycle between.
 bool mpgc_open_some(void)
 {
+    sigset_t old;
     mpgc_lock();
-    size_t page = lowest_closed();
-    bool is_one = !mpgc.is_marking && page < mpgc.size;
-    if (is_one) open_block(page);
+    bool is_one = lowest_closed() < mpgc.size;
+    if (is_one) {
+        mpgc_block_signals(&old);
+        is_one = !mpgc.is_marking && lowest_closed() < mpgc.size;
+        if (is_one) open_block(lowest_closed());
+        mpgc_restore_signals(&old);
+    }
     mpgc_unlock();
     return is_one;
 }
@@ -352,10 +379,13 @@ void mpgc_open_all(void)
 // If a cycle marks it stands still, with every page told and open; and else nothing is owed.
 void mpgc_leave_open(void)
 {
+    sigset_t old;
     mpgc_lock();
+    mpgc_block_signals(&old);
     for (size_t page = 0; mpgc.is_marking && page < mpgc.size; page++) tell(page);
     mpgc_open_all();
     lowest_open = 0;
+    mpgc_restore_signals(&old);
     mpgc_unlock();
 }
 
@@ -375,93 +405,14 @@ void mpgc_close_no_more(void)
 void mpgc_holds_ordinary(size_t page)
 {
     if (mpgc.is_closed[page]) return;
-    lower_to(page);
+    mpgc_lower_to(page);
     tell_now(page);
 }
 
 // Pointer-free objects came to lie on a page of another kind.
 void mpgc_holds_pointer_free(size_t page)
 {
-    if (mpgc.is_closed[page]) open_page(page);
-}
-
-static void add_to_pins(const struct pages *pages, int count)
-{
-    for (size_t page = pages->from; page < pages->to; page++) mpgc.pins[page] = (uint16_t)(mpgc.pins[page] + count);
-}
-
-// Where there are too many, or a handler came in the middle of a change, it writes as it would without: it may find a page closed. A page is
-// counted only while the thread has it: else a step of that handler might clean it, and nobody would tell it again.
-static void pin(size_t from, size_t to, const char *frame)
-{
-    struct thread *self = mpgc_self;
-    if (self->changes_pins || self->pins == PINS) return;
-    self->changes_pins = 1;
-    struct pin *one = &self->pinned[self->pins];
-    *one = (struct pin){ { from, to }, frame };
-    atomic_signal_fence(memory_order_seq_cst);
-    self->pins++;
-    atomic_signal_fence(memory_order_seq_cst);
-    add_to_pins(&one->pages, 1);
-    atomic_signal_fence(memory_order_seq_cst);
-    self->changes_pins = 0;
-}
-
-// From now on the last one's pages are as others: open, told, and to be closed before they are read. The lock is held.
-static void drop_last_pin(struct thread *thread)
-{
-    const struct pages *pages = &thread->pinned[thread->pins - 1].pages;
-    thread->changes_pins = 1;
-    atomic_signal_fence(memory_order_seq_cst);
-    add_to_pins(pages, -1);
-    lower_to(pages->from);
-    atomic_signal_fence(memory_order_seq_cst);
-    thread->pins--;
-    thread->changes_pins = 0;
-}
-
-void mpgc_drop_pins(struct thread *thread)
-{
-    while (thread->pins > 0) drop_last_pin(thread);
-}
-
-static bool is_on_own_stack(const char *frame) { return frame >= mpgc_self->low && frame < mpgc_self->bottom; }
-
-// A handler may make calls of its own in the middle of one: those end that lie no higher than the one with this frame, but for what that one's
-// function has pushed since for a call, which is less than a signal's frame takes.
-static bool has_over(const char *frame)
-{
-    enum { PUSHED = 128 };
-    if (mpgc_self->pins == 0) return false;
-    const char *last = mpgc_self->pinned[mpgc_self->pins - 1].frame;
-    bool is_own = is_on_own_stack(frame);
-    return is_on_own_stack(last) == is_own ? last <= frame + PUSHED : is_own;
-}
-
-void mpgc_wrote(void)
-{
-    const char *frame = __builtin_frame_address(0);
-    if (!mpgc_self || mpgc_self->changes_pins || !has_over(frame)) return;
-    int kept = errno;
-    struct loan loan;
-    mpgc_lock_to_write(&loan);
-    while (has_over(frame)) drop_last_pin(mpgc_self);
-    mpgc_unlock_to_write(&loan);
-    errno = kept;
-}
-
-// Someone who makes no fault, the kernel, will write these bytes.
-void mpgc_will_write(const void *from, size_t bytes)
-{
-    uintptr_t start = (uintptr_t)from, last = FIRST + MAX_PAGES * PAGE, end = bytes > last - start ? last : start + bytes;
-    if (start >= last || end <= FIRST || end == start) return;
-    if (start < FIRST) start = FIRST;
-    struct loan loan;
-    mpgc_lock_to_write(&loan);
-    size_t first = mpgc_page_of(start), after = mpgc_page_of(end - 1) + 1;
-    if (after > mpgc.size) after = mpgc.size;
-    for (size_t page = first; page < after; page++)
-        if (mpgc.is_closed[page]) mpgc_let_write(page);
-    if (mpgc_self && first < after) pin(first, after, __builtin_frame_address(0));
-    mpgc_unlock_to_write(&loan);
+    if (!mpgc.is_closed[page]) return;
+    mpgc_lower_to(page);
+    open_pages(page, 1);
 }

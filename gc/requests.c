@@ -88,16 +88,22 @@ __attribute__((always_inline)) static inline uint64_t next_of(struct run *run)
     return base;
 }
 
-// One object, of a run where it is small, and where the thread isn't about to change one; 0 where there is no room. A large one counts as the
-// pages that it takes, as it will when it is freed.
+// An object that isn't of a run, or 0. A large one counts as the pages that it takes.
+static uint64_t take_alone(size_t words, enum page_kind kind)
+{
+    size_t granules = granules_of(words), pages = pages_of(words);
+    uint64_t base = ask(words, kind);
+    if (base == 0) return 0;
+    mpgc_figures.since += granules > RUN_GRANULES ? pages * (PAGE / WORD) : words;
+    mpgc_figures.taken += granules > RUN_GRANULES ? pages * (PAGE / WORD) : mpgc_size_for(granules) * (GRANULE / WORD);
+    return base;
+}
+
+// One object, of a run where it is small, and where the thread isn't about to change one; 0 where there is no room.
 static uint64_t take(size_t words, enum page_kind kind)
 {
     size_t granules = granules_of(words);
-    if (granules > RUN_GRANULES || mpgc_self->takes_back) {
-        uint64_t alone = ask(words, kind);
-        if (alone != 0) mpgc_figures.since += granules > RUN_GRANULES ? pages_of(words) * (PAGE / WORD) : words;
-        return alone;
-    }
+    if (granules > RUN_GRANULES || mpgc_self->takes_back) return take_alone(words, kind);
     struct run *run = mpgc_run_of(mpgc_self, granules, kind);
     uint64_t base = next_of(run);
     return base == 0 && mpgc_fill_run(run, granules, kind) ? next_of(run) : base;
@@ -187,7 +193,7 @@ __attribute__((noinline)) static void free_by_core(uint64_t base)
         mpgc_forget_finalizer(base);
         mpgc_forget_described(base);
     }
-    mpgc_figures.freed += mpgc_least_words(words);
+    mpgc_figures.freed += words;
     if (mpgc_is_uncollectable(base)) mpgc_set_uncollectable(base, false);
     mpgc_free_in(base);
     mpgc_unlock();
@@ -198,15 +204,17 @@ void GC_free(void *object)
     if (object && !mpgc_take_back((uintptr_t)object)) free_by_core((uintptr_t)object);
 }
 
+enum { NO_KIND = -1 };
+
 // Another object of the old one's kind. One of a kind that the program made is asked for where such kinds are known; and to read every word of
 // one that was typed loses nothing.
 static void *alike(const void *old, size_t bytes)
 {
-    enum { NONE = -1 };
     int kind = mpgc_described_kind((uintptr_t)old);
     uintptr_t base;
     size_t words;
-    if (kind < 0) return kind == NONE && mpgc_kind_at((uintptr_t)old) != ORDINARY ? GC_malloc_atomic(bytes) : GC_malloc(bytes);
+    if (kind == NO_KIND) kind = mpgc_disclaimed_kind((uintptr_t)old);
+    if (kind < 0) return kind == NO_KIND && mpgc_kind_at((uintptr_t)old) != ORDINARY ? GC_malloc_atomic(bytes) : GC_malloc(bytes);
     void *object = mpgc_malloc_kind(bytes, kind);
     bool has_room = mpgc_find((uintptr_t)object, &base, &words) && base == (uintptr_t)object && words * WORD >= bytes;
     if (mpgc_is_inside((uintptr_t)object) && !has_room) mpgc_stop("an object of a kind is too short");
@@ -224,7 +232,12 @@ static void *move(void *old, size_t old_bytes, size_t bytes)
     return object;
 }
 
-// All bytes past those asked for are 0 in an ordinary object, so that what grows in place is 0.
+static bool is_read(uintptr_t base)
+{
+    return mpgc_kind_at(base) == ORDINARY || (mpgc.has_more[mpgc_page_of(base)] && mpgc_described_kind(base) != NO_KIND);
+}
+
+// All bytes past those asked for are 0 in an object that is read, so that what grows in place is 0.
 void *GC_realloc(void *old, size_t bytes)
 {
     if (!old) return GC_malloc(bytes);
@@ -238,7 +251,7 @@ void *GC_realloc(void *old, size_t bytes)
         mpgc_stop("GC_realloc of what isn't the beginning of an object");
     size_t room = words * WORD;
     if (bytes > room - extra() || bytes < room / 2) return move(old, room, bytes);
-    if (mpgc_kind_at(base) == ORDINARY) memset((char *)old + bytes, 0, room - bytes);
+    if (is_read(base)) memset((char *)old + bytes, 0, room - bytes);
     return old;
 }
 

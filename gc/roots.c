@@ -279,7 +279,7 @@ void mpgc_read_roots(void)
     must(mpheap_set(&mpgc.heap, mpgc.slot, 1, 0));
     empty_stack();
     dl_iterate_phdr(scan_object, &objects);
-    for (size_t k = 0; k < added.count; k++) scan(added.at[k].from, added.at[k].to);
+    for (size_t k = 0; k < added.count; k++) scan_static(added.at[k].from, added.at[k].to, 0);
     scan_uncollectable();
     mpgc_call_ends();
     push_others();
@@ -305,11 +305,17 @@ void mpgc_find_stack(const char **low, const char **bottom)
     *bottom = (const char *)from + size;
 }
 
+// One that a longer one takes the place of isn't read besides: a program may say so of a table each time that it has grown.
 static void add_range(struct ranges *ranges, const char *from, const char *to)
 {
     if (from >= to) return;
-    for (size_t k = 0; k < ranges->count; k++)
-        if (ranges->at[k].from <= from && to <= ranges->at[k].to) return;
+    for (size_t k = 0; k < ranges->count; k++) {
+        struct range *one = &ranges->at[k];
+        if (one->from <= from && to <= one->to) return;
+        if (from > one->from || one->to > to) continue;
+        *one = (struct range){ from, to };
+        return;
+    }
     if (ranges->count == ranges->room) {
         ranges->room = ranges->room ? 2 * ranges->room : 16;
         ranges->at = realloc(ranges->at, ranges->room * sizeof *ranges->at);
@@ -347,9 +353,17 @@ void GC_remove_roots(void *from, void *to)
     mpgc_unlock();
 }
 
-void GC_clear_roots(void) { added.count = 0; }
+// Another thread may be adding one.
+static void clear(struct ranges *ranges)
+{
+    mpgc_lock();
+    ranges->count = 0;
+    mpgc_unlock();
+}
 
-void GC_clear_exclusion_table(void) { excluded.count = 0; }
+void GC_clear_roots(void) { clear(&added); }
+
+void GC_clear_exclusion_table(void) { clear(&excluded); }
 
 void GC_register_has_static_roots_callback(GC_has_static_roots_func filter) { is_scanned = filter; }
 

@@ -18,9 +18,9 @@
 // Counted under marking side by side.
 #include "layer.h"
 
-// Words: that are marked alone before a round, so that nobody is woken for less; that each helper reads in the first one; and by so much
-// more in the next. And pages: where fewer are left dirty, and no two helpers have read all that they might, another round isn't worth it.
-enum { ALONE = 1 << 16, FIRST_ROUND = 1 << 16, MOST_IN_ROUND = 1 << 24, LONGER = 4, LONGER_ROUND = 16, MANY_PAGES = 64 };
+// Words: that are marked alone before a round, so that nobody is woken for less, and where all are awake; that each helper reads in the first
+// one; and by so much more in the next. And pages: where fewer are left dirty, and no two helpers have read all that they might, another round isn't worth it.
+enum { ALONE = 1 << 16, EARLY = 1 << 13, FIRST_ROUND = 1 << 16, MOST_IN_ROUND = 1 << 24, LONGER = 4, LONGER_ROUND = 16, MANY_PAGES = 64 };
 
 static mpheap_shares shares[MPHEAP_MAX_HELPERS];  // all stand at the first marker's, out of which the others come
 static _Atomic unsigned opened;
@@ -83,6 +83,17 @@ static void make_round(void)
 }
 
 static uint64_t alone;
+static uint64_t rounds_in, called_in;  // the numbers of the last collections, from 1 on, that made rounds, and in which markers were called up early
+
+// Where the last collection made rounds, so will this one: the markers are to be there when its first one begins. Answers whether they will be.
+static bool call_up_early(void)
+{
+    uint64_t number = mpgc.ended + 1;
+    if (rounds_in == 0 || rounds_in + 1 != number || called_in == number) return false;
+    called_in = number;
+    mpgc_call_up();
+    return true;
+}
 
 // Much may be to be marked. Answers how many words are to be marked alone first: all, where there are no markers, or a cycle ends that has
 // marked in small steps.
@@ -90,8 +101,8 @@ uint64_t mpgc_begin_rounds(void)
 {
     helpers = mpgc.is_marking ? 1 : mpgc_markers() + 1;
     if (helpers > opened) helpers = opened;
-    alone = ALONE;
-    return helpers > 1 ? ALONE : UINT64_MAX;
+    alone = helpers > 1 && call_up_early() ? EARLY : ALONE;
+    return helpers > 1 ? alone : UINT64_MAX;
 }
 
 // The words of a round are counted, to pace by: what helpers read of objects that they marked, and all of the pages that were dealt, as
@@ -121,6 +132,8 @@ uint64_t mpgc_mark_in_rounds(void)
     uint64_t dirty = mpgc_dirty_pages();
     bool pays, goes_on;
     round_words = FIRST_ROUND;
+    rounds_in = mpgc.ended + 1;
+    mpgc_call_up();
     do {
         make_round();
         if (!is_shared) return UINT64_MAX;
@@ -129,6 +142,7 @@ uint64_t mpgc_mark_in_rounds(void)
         goes_on = pays && dirty > 0 && (dirty >= MANY_PAGES || were_busy());
         if (round_words < MOST_IN_ROUND) round_words *= LONGER_ROUND;
     } while (goes_on);
+    if (!pays) mpgc_stand_down();
     alone = pays ? ALONE : alone * LONGER;
     return alone;
 }

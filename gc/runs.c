@@ -28,14 +28,6 @@ const uint16_t mpgc_run_at[RUN_GRANULES + 1] = {
 // Of how many granules the core makes an object of so many.
 uint8_t mpgc_size_for(size_t granules) { return sizes[mpgc_run_at[granules] / sizeof(struct run)]; }
 
-// The fewest words by which an object of so many was asked for, if it is small: what counts as freed is no more than what counted as asked for.
-size_t mpgc_least_words(size_t words)
-{
-    if (words > RUN_GRANULES * (GRANULE / WORD)) return words;
-    size_t number = mpgc_run_at[words / (GRANULE / WORD)] / sizeof(struct run);
-    return number == 0 ? words : (size_t)(sizes[number - 1] + 1) * (GRANULE / WORD);
-}
-
 // No more than what may be asked for before the next look at what is due, but one.
 static size_t most_of(size_t words)
 {
@@ -92,17 +84,21 @@ bool mpgc_fill_run(struct run *run, size_t granules, enum page_kind kind)
     publish(run, bases, known);
     run->words = granules * (GRANULE / WORD);
     mpgc_figures.since += known * run->words;
+    mpgc_figures.taken += known * words;
     return known > 0;
 }
 
-// Words that count as asked for, and weren't yet.
+// Words that count as asked for, and weren't yet. Of a thread that runs the end is read last: it is no less than what was next before.
 UNSEEN size_t mpgc_words_in_runs(void)
 {
     size_t words = 0;
     mpgc_lock();
     for (const struct thread *one = mpgc.threads; one; one = one->next) {
         const struct run *all = one->runs[0];
-        for (size_t k = 0; k < 2 * RUN_SIZES; k++) words += (all[k].end - all[k].next) * all[k].words;
+        for (size_t k = 0; k < 2 * RUN_SIZES; k++) {
+            uint64_t next = *(const volatile uint64_t *)&all[k].next;
+            words += (*(const volatile uint64_t *)&all[k].end - next) * all[k].words;
+        }
     }
     mpgc_unlock();
     return words;
@@ -112,8 +108,10 @@ UNSEEN size_t mpgc_words_in_runs(void)
 void mpgc_empty_runs(struct thread *thread)
 {
     struct run *all = thread->runs[0];
-    for (size_t k = 0; k < 2 * RUN_SIZES; k++)
+    for (size_t k = 0; k < 2 * RUN_SIZES; k++) {
+        mpgc_figures.freed += (all[k].end - all[k].next) * sizes[k % RUN_SIZES] * (GRANULE / WORD);
         for (; all[k].next < all[k].end; all[k].next++) mpgc_free_in(all[k].bases[all[k].next % RUN_OBJECTS]);
+    }
 }
 
 void mpgc_push_runs(const struct thread *thread, void (*push)(uint64_t word))

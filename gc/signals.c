@@ -33,14 +33,23 @@ static void set_signals(const sigset_t *blocked, sigset_t *old)
     if (mpgc_call_kernel(SYS_rt_sigprocmask, SIG_SETMASK, blocked, old, BYTES) != 0) mpgc_stop("the kernel refused to block signals");
 }
 
-void mpgc_block_signals(sigset_t *old)
+static void block(sigset_t all, sigset_t *old)
 {
     static const int of_faults[] = { SIGSEGV, SIGBUS, SIGFPE, SIGILL, SIGTRAP, SIGABRT };
-    sigset_t all = every_signal();
     for (size_t k = 0; k < sizeof of_faults / sizeof *of_faults; k++) sigdelset(&all, of_faults[k]);
     set_signals(&all, old);
     sigdelset(old, SIGSEGV);
     if (mpgc.is_threaded) sigdelset(old, mpgc_stopper);  // the program may have been started with it blocked
+}
+
+void mpgc_block_signals(sigset_t *old) { block(every_signal(), old); }
+
+// The same, but that this thread can be stopped: so it may wait for the lock.
+void mpgc_block_handlers(sigset_t *old)
+{
+    sigset_t all = every_signal();
+    sigdelset(&all, mpgc_stopper);
+    block(all, old);
 }
 
 void mpgc_restore_signals(const sigset_t *old) { set_signals(old, NULL); }

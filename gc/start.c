@@ -43,7 +43,6 @@ static void open_heap(void)
 {
     is_open = true;
     mpgc_know_first();
-    (void)mpgc_now();  // it finds the clock of the C library, which waits for a dlopen; and that may wait for the lock, but never here
     mpgc.all = open_core();
     if (mpgc.all == 0) mpgc_stop("there is no memory at 0x550000000000, where the heap's addresses begin");
     if (mpheap_attach(&mpgc.heap, &mpgc.slot) != MPHEAP_OK) mpgc_stop("a new heap has no slot");

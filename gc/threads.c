@@ -14,8 +14,7 @@
 #include "kernel/next.h"
 #include <errno.h>
 #include <stdlib.h>
-#include <sys/syscall.h>
-#include <unistd.h>
+#include <string.h>
 
 SHOWN int GC_pthread_create(pthread_t *thread, const pthread_attr_t *attributes, void *(*start)(void *), void *data);
 SHOWN _Noreturn void GC_pthread_exit(void *answer);
@@ -24,7 +23,8 @@ _Thread_local struct thread *mpgc_self __attribute__((tls_model("initial-exec"))
 
 static pthread_key_t key;
 enum { LAST_ROUND = 4 - ROUNDS_OF_TOOL };  // of destructors of keys: the C library makes four
-static _Thread_local bool has_said_goodbye __attribute__((tls_model("initial-exec")));
+static _Thread_local unsigned goodbyes __attribute__((tls_model("initial-exec")));
+static bool is_late(void) { return goodbyes >= LAST_ROUND; }
 
 // ---- Records ----
 
@@ -52,6 +52,14 @@ static struct thread *with_id(struct thread *one, pthread_t id)
 }
 
 struct thread *mpgc_record_of(pthread_t id) { return with_id(mpgc.threads, id); }
+
+// One that asks late has another record by then, and is waited for by its first.
+static struct thread *first_record_of(pthread_t id)
+{
+    struct thread *record = with_id(mpgc.threads, id);
+    while (record && record->is_late) record = with_id(record->next, id);
+    return record;
+}
 
 // ---- Coming ----
 
@@ -85,7 +93,7 @@ void mpgc_know_first(void)
     link_record(&mpgc.first);
     mpgc_self = &mpgc.first;
     if (pthread_key_create(&key, on_goodbye) != 0) mpgc_stop("the C library has no key left");
-    (void)mpgc_set_own_key(key, &mpgc.first);
+    (void)mpgc_set_own_key(key, &key);
 }
 
 static void become(enum thread_state state)
@@ -109,7 +117,7 @@ static void *run_as(struct thread *self)
     become(RUNNING);
     void *data = self->data;
     self->data = NULL;
-    (void)mpgc_set_own_key(key, self);
+    (void)mpgc_set_own_key(key, &key);
     return data;
 }
 
@@ -122,6 +130,28 @@ static void be_threaded(void)
     mpgc_will_be_threaded();
 }
 
+// Of a thread that has told that it goes, and comes again: the one that it had, as who joins it will ask that one for its answer. Or else a new one.
+static struct thread *record_of_this(void)
+{
+    struct thread *made = calloc(1, sizeof *made);
+    if (!made) mpgc_stop("no memory for a thread's record");
+    mpgc_lock();
+    struct thread *had = is_late() ? NULL : first_record_of(pthread_self());
+    if (had && had->state == ENDED) {
+        memset(had->runs, 0, sizeof had->runs);
+        had->state = STARTING;
+    } else {
+        made->id = pthread_self();
+        made->is_late = is_late();
+        made->is_detached = true;
+        link_record(made);
+    }
+    mpgc_unlock();
+    if (made->id) return made;
+    free(made);
+    return had;
+}
+
 // A thread that nobody told of. No handler of the program runs on it before it is known: that would call in as another thread, or be given
 // what no root names.
 void mpgc_know_this(const struct GC_stack_base *base)
@@ -130,18 +160,20 @@ void mpgc_know_this(const struct GC_stack_base *base)
     if (!mpgc.is_threaded) mpgc_stop("a thread that nobody told of calls in: call GC_allow_register_threads first");
     mpgc_block_signals(&old);
     if (!mpgc_self) {
-        struct thread *self = calloc(1, sizeof *self);
-        if (!self) mpgc_stop("no memory for a thread's record");
-        self->is_late = has_said_goodbye;
+        struct thread *self = record_of_this();
         find_this(self, base);
-        self->id = pthread_self();
-        mpgc_lock();
-        link_record(self);
-        self->is_detached = true;
-        mpgc_unlock();
         (void)run_as(self);
     }
     mpgc_restore_signals(&old);
+}
+
+// Until somebody has asked for it. Where the thread has told that it goes its record may be gone.
+static void keep_answer(void *answer)
+{
+    mpgc_lock();
+    struct thread *record = mpgc_self ? mpgc_self : first_record_of(pthread_self());
+    if (record) record->data = answer;
+    mpgc_unlock();
 }
 
 static void *begin(void *record)
@@ -151,7 +183,7 @@ static void *begin(void *record)
     void *data = run_as(self);
     mpgc_restore_signals(&self->signals);
     void *answer = self->start(data);
-    if (mpgc_self == self) self->data = answer;  // else it has said that it goes, and the record is gone
+    keep_answer(answer);
     return answer;
 }
 
@@ -245,20 +277,18 @@ static void forget(struct thread *self, sigset_t *old)
     mpgc_unlock();
 }
 
-// Other destructors may still use objects: so this one comes again until the last round.
-static void on_goodbye(void *record)
+// Other destructors may still use objects: so this one comes again until the last round. It does so too where the thread has told of itself that
+// it goes, since what it has set by keys stays until then.
+static void on_goodbye(void *again)
 {
-    struct thread *self = record;
-    if (self != mpgc_self) return;
-    has_said_goodbye = true;
-    become(RUNNING);  // it may have ended in a function that GC_do_blocking called
-    if (++self->goodbyes < LAST_ROUND) {
-        (void)mpgc_set_own_key(key, self);
+    sigset_t old;
+    if (mpgc_self) become(RUNNING);  // it may have ended in a function that GC_do_blocking called
+    if (++goodbyes < LAST_ROUND) {
+        (void)mpgc_set_own_key(key, again);
         return;
     }
-    sigset_t old;
     mpgc_give_up_mutexes();
-    forget(self, &old);
+    if (mpgc_self) forget(mpgc_self, &old);
     mpgc_drop_keys();
     if (MOVES_SIGNALS_STACKS) mpgc_drop_signals_stack();
 }
@@ -266,18 +296,16 @@ static void on_goodbye(void *record)
 void GC_pthread_exit(void *answer)
 {
     NEXT(void, pthread_exit, (void *));
-    if (mpgc_self) mpgc_self->data = answer;
+    keep_answer(answer);
     next(answer);
     abort();
 }
 
-// The record stays until it is let go, though its thread may end, and may have told of itself. One that asked late has another record by then,
-// and is waited for by its first.
+// The record stays until it is let go, though its thread may end, and may have told of itself.
 static struct thread *hold(pthread_t id)
 {
     mpgc_lock();
-    struct thread *record = with_id(mpgc.threads, id);
-    while (record && record->is_late) record = with_id(record->next, id);
+    struct thread *record = first_record_of(id);
     if (record) record->holders++;
     mpgc_unlock();
     return record;
@@ -342,73 +370,15 @@ int GC_unregister_my_thread(void)
     struct thread *self = mpgc_self;
     sigset_t old;
     if (!self) return GC_SUCCESS;
-    (void)mpgc_set_own_key(key, NULL);
-    self->is_detached = true;
+    self->is_told = false;
     forget(self, &old);
     mpgc_restore_signals(&old);
     return GC_SUCCESS;
 }
 
-// The first thread's is in a variable that the program may read, and write.
-static char *bottom_of(const struct thread *thread)
-{
-    return thread == &mpgc.first ? GC_stackbottom : (char *)(uintptr_t)thread->bottom;
-}
-
-// The lowest place of a stack that is there: where the thread was on it isn't known. What isn't mapped is left alone, since it would be from
-// then on; and a stack of the program's own may end with a page that can't be read.
-static const char *lowest(const char *low, const char *bottom)
-{
-    char *at = (char *)((uintptr_t)bottom & ~(PAGE - 1));
-    unsigned char answer;
-    int kept = errno;
-    while (at > low && mpgc_call_kernel(SYS_mincore, at - PAGE, PAGE, &answer) == 0 && mpgc_can_be_read(at - WORD)) at -= PAGE;
-    errno = kept;
-    return at > low ? at : low;  // a stack that the program gave may begin in the middle of a page
-}
-
-// The process's first stack may have grown past where it might end when the thread was looked at, since the program has allowed it more: then all
-// is mapped that lies between.
-static bool is_on_own_stack(struct thread *one, const char *top)
-{
-    bool may_grow = top < one->low && one->number == (uint32_t)getpid();
-    if (may_grow && lowest(top, one->bottom) <= top) one->low = top;
-    return top >= one->low && top < one->bottom;
-}
-
-static bool has_own_stacks;
-bool mpgc_has_own_stacks(void) { return has_own_stacks; }
-
-// A program of one thread that moves between stacks says so by that variable alone, or by GC_set_stackbottom, a moment before it moves or
-// behind it: so where the first thread was stopped it is certain only on the stack that it began with.
-bool mpgc_first_is_at_home(void)
-{
-    struct thread *first = &mpgc.first;
-    const char *top = first->alt_top ? first->under : first->top;
-    if (has_own_stacks) return false;
-    if (first == mpgc_self || first->state == ENDED) return true;
-    return GC_stackbottom == first->bottom && (!top || !first->low || is_on_own_stack(first, top));
-}
-
 void *mpgc_this_thread(void) { return mpgc_self; }
 
 bool mpgc_may_be_stopped(void) { return mpgc.is_threaded && mpgc_self && mpgc_self->state == RUNNING && mpgc_lock_depth == 0; }
-
-char *mpgc_stack_bottom(void)
-{
-    mpgc_enter();
-    return bottom_of(mpgc_self);
-}
-
-// The thread is this one, or one that is stopped.
-void GC_set_stackbottom(void *thread, const struct GC_stack_base *base)
-{
-    struct thread *which = thread ? thread : mpgc_self;
-    has_own_stacks = true;
-    if (!which || which == &mpgc.first) GC_stackbottom = base->mem_base;
-    if (which) which->bottom = base->mem_base;
-    if (which) which->low = NULL;
-}
 
 struct call { GC_fn_type function; void *data, *answer; };
 
@@ -448,33 +418,6 @@ bool mpgc_is_last_thread(void)
     while (one && (one == mpgc_self || one->is_late || one->state == ENDED)) one = one->next;
     mpgc_unlock();
     return !one;
-}
-
-// ---- What they have ----
-
-static void scan_stack(struct thread *one, void (*scan)(const char *from, const char *to))
-{
-    const char *top = one->top, *bottom = bottom_of(one);
-    if (one->alt_top) {
-        scan(top, one->alt_top);
-        top = one->under ? one->under : lowest(one->low, bottom);
-    }
-    bool is_own = bottom == one->bottom && one->low;
-    if (top >= bottom || (is_own && !is_on_own_stack(one, top)))
-        mpgc_stop("a collection on another stack than the thread's own: see GC_set_stackbottom");
-    scan(top, bottom);
-}
-
-void mpgc_scan_threads(void (*scan)(const char *from, const char *to), void (*push)(uint64_t word))
-{
-    for (struct thread *one = mpgc.threads; one; one = one->next) {
-        push((uintptr_t)one->data);
-        if (one->state == STARTING || one->state == ENDED) continue;
-        mpgc_push_runs(one, push);
-        scan_stack(one, scan);
-        mpgc_scan_room_of_locals(one, scan);
-        mpgc_scan_keys(one, scan);
-    }
 }
 
 // ---- fork ----

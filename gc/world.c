@@ -74,6 +74,16 @@ bool mpgc_is_one_standing(void)
     return one && !mpgc_world_is_stopped();
 }
 
+// Whether no other thread runs, that a stop would wait for: that of the collector never does.
+bool mpgc_stops_nobody(void)
+{
+    mpgc_lock();
+    const struct thread *one = mpgc.threads;
+    while (one && (one == mpgc_self || one->state != RUNNING || one->is_suspended)) one = one->next;
+    mpgc_unlock();
+    return !one;
+}
+
 // This thread is blocked (GC_do_blocking), and was told to wait.
 void mpgc_wait_suspended(void)
 {
@@ -129,12 +139,12 @@ static bool has_gone(const struct thread *one)
     return one->number == (uint32_t)getpid() && mpgc_call_kernel(SYS_get_robust_list, one->number, &list, &bytes) == 0 && !list;
 }
 
-// Where it has ended without a word, the kernel knows it no more, and it has nothing.
+// Where it has ended without a word, so that the kernel knows it no more, or is leaving, it has nothing.
 static bool is_told(struct thread *one, int signal)
 {
     bool is_there = mpgc_call_kernel(SYS_tgkill, getpid(), one->number, signal) == 0;
     if (!is_there && errno != ESRCH) mpgc_stop("the kernel refused to signal a thread");
-    if (is_there && !(signal == 0 && has_gone(one))) return true;
+    if (is_there && !(signal == 0 && (has_gone(one) || mpgc_is_leaving(one, mpgc_stopper)))) return true;
     one->state = ENDED;
     mpgc.are_some_gone = true;
     return false;

@@ -135,7 +135,7 @@ if command -v clang >"$room/said"; then CC=clang build "$room/clang"; else skip 
 
 # Each function, each place of roots, and what stands round the barrier.
 tests=(functions settings macros inline limits links frees uncollectable pacing leaks unmapped finalizers typed kinds asking
-    without_memory roots neighbours barrier crowded mapped kernel copies direct aio lookups submitted notices within sorting signals handlers moments process shadow threads world loading
+    without_memory roots neighbours barrier crowded mapped kernel copies direct aio lookups submitted notices within sleeping sorting signals handlers moments interrupted process shadow threads world loading
     registering stopping turns goodbyes suspending faulting waiting walking starting locks leaving joining behind together collector marking stacks)
 build_test() { "${c[@]}" "$top/tests/gc/$1.c" "-L$room" -lmpgc "-Wl,-rpath,$room" -pthread -o "$room/$1"; }
 each "is built" build_test "${tests[@]}"
@@ -157,7 +157,7 @@ done
 beside counts starting "$room/starting"
 
 # What works on one thread, or on few: the longest first.
-for test in moments mapped; do queued counts "$test" "$room/$test"; done
+for test in moments interrupted mapped; do queued counts "$test" "$room/$test"; done
 for test in functions settings links frees pacing; do
     queued counts "$test" "$room/$test"
     queued counts "$test, in small steps" env GC_ENABLE_INCREMENTAL=1 "$room/$test"
@@ -167,7 +167,7 @@ for test in inline unmapped uncollectable finalizers typed kinds asking register
     queued counts "$test" "$room/$test"
     queued counts "$test, in small steps" env INCREMENTAL=1 "$room/$test"
 done
-for test in macros limits leaks neighbours barrier crowded without_memory kernel copies direct aio lookups submitted notices within signals joining; do
+for test in macros limits leaks neighbours barrier crowded without_memory kernel copies direct aio lookups submitted notices within sleeping signals joining; do
     queued counts "$test" "$room/$test"
 done
 for setting in FULL GC_ENABLE_INCREMENTAL GC_COLLECTOR_THREAD; do

@@ -31,7 +31,7 @@ __attribute__((unused)) static void mpgc_add_to(struct span *span, const void *a
 }
 __attribute__((unused)) static void mpgc_add_parts_to(struct span *span, const struct iovec *parts, size_t count)
 {
-    for (size_t k = 0; k < count; k++) mpgc_add_to(span, parts[k].iov_base, parts[k].iov_len);
+    for (size_t k = 0; parts && k < count; k++) mpgc_add_to(span, parts[k].iov_base, parts[k].iov_len);
 }
 __attribute__((unused)) static void mpgc_will_write_span(const struct span *span)
 {
@@ -42,7 +42,7 @@ __attribute__((unused)) static void mpgc_will_write_parts(const struct iovec *pa
 {
     enum { FEW = 4 };
     struct span all = NO_SPAN;
-    for (size_t k = 0; k < count && count <= FEW; k++) mpgc_will_write(parts[k].iov_base, parts[k].iov_len);
+    for (size_t k = 0; parts && k < count && count <= FEW; k++) mpgc_will_write(parts[k].iov_base, parts[k].iov_len);
     if (count <= FEW) return;
     mpgc_add_parts_to(&all, parts, count);
     mpgc_will_write_span(&all);
@@ -55,8 +55,11 @@ __attribute__((unused)) static void mpgc_may_call(const struct sigevent *event)
     if (makes_thread && !mpgc_is_threaded() && GC_is_init_called() && mpgc_this_thread()) GC_allow_register_threads();
 }
 
+// Where a function keeps what stands behind it: libmpgc.so finds all when it is loaded (syscalls.c).
+struct sought { atomic_uintptr_t *kept; const char *name; };
 #define NEXT(answer, name, words) \
     static atomic_uintptr_t kept_; \
+    static struct sought sought_ __attribute__((section("mpgc_sought"), used, aligned(sizeof(struct sought)))) = { &kept_, #name }; \
     answer(*const next) words = (answer(*) words)mpgc_next(&kept_, #name, "the C library has no " #name)
 
 // What the call answers, when the kernel has written what it writes.

@@ -1,8 +1,9 @@
 // Calls of the C library by which the kernel writes into the program's memory: files. A closed page makes no fault then: the call would
 // answer EFAULT. So the pages are told and opened first. Only in libmpgc.so, with those of sockets, waiting and times (syscalls_more.c), copies
 // (syscalls_copies.c), queues (syscalls_queues.c), locks (syscalls_locks.c), others (syscalls_others.c), `syscall` (syscalls_direct.c), what is done
-// beside the program (syscalls_aio.c, syscalls_lookups.c), what threads of its own call (syscalls_notices.c), functions that hand places on (syscalls_within.c) and the
-// checked names of these (syscalls_checked.c); what is in none of them answers EFAULT, as with bdwgc, and loses nothing.
+// beside the program (syscalls_aio.c, syscalls_lookups.c), what threads of its own call (syscalls_notices.c), functions that hand places on
+// (syscalls_within.c), sleeps (syscalls_sleeps.c) and the checked names of these (syscalls_checked.c); what is in none of them answers EFAULT, as
+// with bdwgc, and loses nothing.
 #include "next.h"
 #include <stdio.h>
 #include <sys/sendfile.h>
@@ -13,6 +14,15 @@
 #include <sys/vfs.h>
 
 #undef fread_unlocked
+
+// Who looks for what stands behind a call in the middle of the program waits for a dlopen, which may wait for him; and a handler of signals may
+// have come in the middle of one.
+HIDDEN extern struct sought __start_mpgc_sought[], __stop_mpgc_sought[];
+__attribute__((constructor)) static void find_all(void)
+{
+    for (struct sought *one = __start_mpgc_sought; one < __stop_mpgc_sought; one++)
+        atomic_store_explicit(one->kept, (uintptr_t)dlsym(RTLD_NEXT, one->name), memory_order_relaxed);
+}
 
 OPENS(ssize_t, read, (int file, void *into, size_t bytes), (file, into, bytes), into, bytes)
 OPENS(ssize_t, pread, (int file, void *into, size_t bytes, off_t from), (file, into, bytes, from), into, bytes)

@@ -37,6 +37,15 @@ SHOWN ssize_t process_vm_readv(pid_t process, const struct iovec *parts, unsigne
     SAYS(next(process, parts, count, from, others, flags));
 }
 
+// Into this process itself.
+SHOWN ssize_t process_vm_writev(pid_t process, const struct iovec *parts, unsigned long count, const struct iovec *into, unsigned long others,
+                                unsigned long flags)
+{
+    NEXT(ssize_t, process_vm_writev, (pid_t, const struct iovec *, unsigned long, const struct iovec *, unsigned long, unsigned long));
+    if (process == getpid()) mpgc_will_write_parts(into, others);
+    SAYS(next(process, parts, count, into, others, flags));
+}
+
 // How much of each was sent is told.
 OPENS(int, sendmmsg, (int file, struct mmsghdr *messages, unsigned count, int flags), (file, messages, count, flags), messages,
       count * sizeof *messages)

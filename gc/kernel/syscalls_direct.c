@@ -5,6 +5,7 @@
 #include "next.h"
 #include <errno.h>
 #include <linux/aio_abi.h>
+#include <poll.h>
 #include <stdarg.h>
 #include <sys/syscall.h>
 #include <unistd.h>
@@ -29,6 +30,15 @@ static void will_submit(struct iocb *const *list, long count)
     mpgc_will_write_span(&all);
 }
 
+// Those by which the next word counts more than bytes, or an earlier one.
+static void will_write_counted(long number, const unsigned long *words)
+{
+    if (number == SYS_poll || number == SYS_ppoll) will_write(words[0], words[1] * sizeof(struct pollfd));
+    if (number == SYS_getgroups) will_write(words[1], words[0] * sizeof(gid_t));
+    if (number == SYS_mincore) will_write(words[2], words[1] / PAGE + 1);
+    if (number == SYS_move_pages) will_write(words[4], words[1] * sizeof(int));
+}
+
 static void will_tell(struct io_event *into, long count) { mpgc_will_write(into, count > 0 ? (size_t)count * sizeof *into : 0); }
 
 // What is asked for by a ring (io_uring) stands where no call tells of it, and the kernel writes what came at any time: so no page is closed from
@@ -49,6 +59,7 @@ __attribute__((no_sanitize("address"))) SHOWN long syscall(long number, ...)
     for (int k = 0; k < WORDS; k++) words[k] = va_arg(rest, unsigned long);
     va_end(rest);
     for (int k = 0; k < WORDS; k++) will_write(words[k], words[k + 1]);
+    will_write_counted(number, words);
     if (number == SYS_io_submit) will_submit((void *)words[2], (long)words[1]);
     if (number == SYS_io_getevents || number == SYS_io_pgetevents) will_tell((void *)words[3], (long)words[2]);
     long answer = mpgc_call_kernel(number, words[0], words[1], words[2], words[3], words[4], words[5]);

@@ -2,29 +2,9 @@
 // priorities or are for several processes, and conditions, semaphores, barriers and locks of readers and writers that are. Where one lies
 // in the heap, its page is open while the call runs: a stop interrupts a wait, and the kernel begins it anew. Of others the kernel only
 // reads, and nothing is done. Only in libmpgc.so.
-//
-// What stands behind is found when the layer is loaded: who looks for it later waits for a dlopen, which may wait for a lock that he has.
 #include "next.h"
 #include <pthread.h>
 #include <semaphore.h>
-
-#define BEHIND(one) \
-    one(pthread_mutex_lock) one(pthread_mutex_trylock) one(pthread_mutex_timedlock) one(pthread_mutex_clocklock) \
-    one(pthread_mutex_unlock) \
-    one(pthread_cond_wait) one(pthread_cond_timedwait) one(pthread_cond_clockwait) one(pthread_cond_signal) one(pthread_cond_broadcast) \
-    one(pthread_rwlock_rdlock) one(pthread_rwlock_timedrdlock) one(pthread_rwlock_clockrdlock) \
-    one(pthread_rwlock_wrlock) one(pthread_rwlock_timedwrlock) one(pthread_rwlock_clockwrlock) one(pthread_rwlock_unlock) \
-    one(pthread_barrier_wait) one(sem_wait) one(sem_timedwait) one(sem_clockwait) one(sem_post)
-#define NUMBER_OF(name) NUMBER_OF_##name,
-#define NAME_OF(name) #name,
-enum { BEHIND(NUMBER_OF) ALL };
-static const char *const names[ALL] = { BEHIND(NAME_OF) };
-static atomic_uintptr_t behind[ALL];
-
-__attribute__((constructor)) static void find_all(void)
-{
-    for (int k = 0; k < ALL; k++) behind[k] = (uintptr_t)dlsym(RTLD_NEXT, names[k]);
-}
 
 // What the C library has in them: in a mutex's kind, a condition's count of waiters, a semaphore's third number, and a barrier's fourth.
 enum { ROBUST = 16, INHERITS = 32, SHARED = 128, SHARED_CONDITION = 1, OF_SEMAPHORE = 2, OF_BARRIER = 3 };
@@ -44,7 +24,7 @@ static bool is_written_sem(const sem_t *semaphore) { return has(semaphore, OF_SE
 #define WRITES(kind, name, words, values, one) \
     SHOWN int name words \
     { \
-        int(*const next) words = (int(*) words)mpgc_next(&behind[NUMBER_OF_##name], #name, "the C library has no " #name); \
+        NEXT(int, name, words); \
         if (!is_written_##kind(one)) return next values; \
         mpgc_will_write(one, sizeof *one); \
         SAYS(next values); \
@@ -77,7 +57,7 @@ WRITES(sem, sem_post, (sem_t *semaphore), (semaphore), semaphore)
 #define WAITS_FOR(name, words, values) \
     SHOWN int name words \
     { \
-        int(*const next) words = (int(*) words)mpgc_next(&behind[NUMBER_OF_##name], #name, "the C library has no " #name); \
+        NEXT(int, name, words); \
         bool is_cond = is_written_cond(cond), is_mutex = is_written_mutex(mutex); \
         if (!is_cond && !is_mutex) return next values; \
         if (is_cond) mpgc_will_write(cond, sizeof *cond); \

@@ -19,6 +19,14 @@ static pthread_mutex_t lock = PTHREAD_MUTEX_INITIALIZER;
 static struct lookup *all, *gone[KEPT];
 static unsigned turn;
 
+// In a child, where the thread that had the lock isn't, nor may have done what it was about.
+static void begin_anew(void)
+{
+    lock = (pthread_mutex_t)PTHREAD_MUTEX_INITIALIZER;
+    for (size_t k = 0; k < KEPT; k++) gone[k] = NULL;
+}
+__attribute__((constructor)) static void take_forks(void) { pthread_atfork(NULL, NULL, begin_anew); }
+
 // With the lock.
 static struct lookup *find(const struct gaicb *block)
 {
@@ -63,10 +71,12 @@ static void drop(const struct gaicb *block)
     pthread_mutex_unlock(&lock);
 }
 
-// What came is handed on, if it has.
+// What came is handed on, if it has. The block's page is opened before: who has this lock mustn't wait for the layer's, since whoever has that one
+// may come to wait for this.
 static void settle(const struct gaicb *block)
 {
     if (!GC_is_heap_ptr(block)) return;
+    mpgc_will_write(block, sizeof *block);
     pthread_mutex_lock(&lock);
     struct lookup *one = find(block);
     int status = one ? __atomic_load_n(&one->own.__return, __ATOMIC_ACQUIRE) : EAI_INPROGRESS;
@@ -76,6 +86,7 @@ static void settle(const struct gaicb *block)
         take_away(one);
     }
     pthread_mutex_unlock(&lock);
+    mpgc_wrote();
 }
 
 // By which block it is done; or null, where there is no memory.

@@ -1,6 +1,7 @@
 // Calls of the C library by which the kernel writes into the program's memory: sockets, waiting, times, signals, devices. As syscalls.c
 // has those of files. Only in libmpgc.so. Those that wait with other signals blocked don't block faults (masks.c).
 #include "next.h"
+#include <linux/filter.h>
 #include <net/if.h>
 #include <poll.h>
 #include <sched.h>
@@ -92,10 +93,12 @@ SHOWN int accept4(int file, __SOCKADDR_ARG address, socklen_t *restrict length, 
     SAYS(next(file, address, length, flags));
 }
 
+// Of a filter the length counts instructions.
 SHOWN int getsockopt(int file, int level, int name, void *restrict into, socklen_t *restrict length)
 {
     NEXT(int, getsockopt, (int, int, int, void *, socklen_t *));
     will_write_counted(into, length);
+    if (length && level == SOL_SOCKET && name == SO_GET_FILTER) mpgc_will_write(into, *length * sizeof(struct sock_filter));
     SAYS(next(file, level, name, into, length));
 }
 
@@ -125,17 +128,19 @@ SHOWN pid_t wait3(int *status, int flags, struct rusage *used) { return wait4(-1
 SPAWNS(posix_spawn)
 SPAWNS(posix_spawnp)
 
-static void will_write_sets(fd_set *to_read, fd_set *to_write, fd_set *others)
+// Sets of more files than the C library's have are longer: as far as the count goes the kernel writes.
+static void will_write_sets(int count, fd_set *to_read, fd_set *to_write, fd_set *others)
 {
-    mpgc_will_write(to_read, sizeof *to_read);
-    mpgc_will_write(to_write, sizeof *to_write);
-    mpgc_will_write(others, sizeof *others);
+    size_t words = count > 0 ? ((size_t)count + NFDBITS - 1) / NFDBITS : 0, bytes = words * sizeof(fd_mask);
+    mpgc_will_write(to_read, bytes);
+    mpgc_will_write(to_write, bytes);
+    mpgc_will_write(others, bytes);
 }
 
 SHOWN int select(int count, fd_set *restrict to_read, fd_set *restrict to_write, fd_set *restrict others, struct timeval *restrict timeout)
 {
     NEXT(int, select, (int, fd_set *, fd_set *, fd_set *, struct timeval *));
-    will_write_sets(to_read, to_write, others);
+    will_write_sets(count, to_read, to_write, others);
     mpgc_will_write(timeout, sizeof *timeout);
     SAYS(next(count, to_read, to_write, others, timeout));
 }
@@ -144,7 +149,7 @@ SHOWN int pselect(int count, fd_set *restrict to_read, fd_set *restrict to_write
                   const struct timespec *restrict timeout, const sigset_t *restrict blocked)
 {
     NEXT(int, pselect, (int, fd_set *, fd_set *, fd_set *, const struct timespec *, const sigset_t *));
-    will_write_sets(to_read, to_write, others);
+    will_write_sets(count, to_read, to_write, others);
     sigset_t mask;
     SAYS(next(count, to_read, to_write, others, timeout, mpgc_without_faults(blocked, &mask)));
 }
@@ -173,9 +178,6 @@ OPENS(int, clock_gettime, (clockid_t clock, struct timespec *into), (clock, into
 OPENS(int, clock_getres, (clockid_t clock, struct timespec *into), (clock, into), into, sizeof *into)
 OPENS(int, gettimeofday, (struct timeval *restrict into, void *restrict zone), (into, zone), into, sizeof *into)
 OPENS(time_t, time, (time_t *into), (into), into, sizeof *into)
-OPENS(int, nanosleep, (const struct timespec *wanted, struct timespec *left), (wanted, left), left, sizeof *left)
-OPENS(int, clock_nanosleep, (clockid_t clock, int flags, const struct timespec *wanted, struct timespec *left),
-      (clock, flags, wanted, left), left, sizeof *left)
 OPENS(clock_t, times, (struct tms *into), (into), into, sizeof *into)
 OPENS(int, getitimer, (__itimer_which_t which, struct itimerval *into), (which, into), into, sizeof *into)
 OPENS(int, setitimer, (__itimer_which_t which, const struct itimerval *restrict next_one, struct itimerval *restrict old),
@@ -209,8 +211,18 @@ SHOWN void arc4random_buf(void *into, size_t bytes)
 // Signals that came: those that are waited for are in masks.c.
 OPENS(int, sigpending, (sigset_t *into), (into), into, sizeof *into)
 
-// What a device writes is as long as its number says, where that says it, and else no more than a page, behind the pointer. The list of a
-// machine's interfaces lies where the program says there.
+// What a device writes is as long as its number says, where that says it, and else no more than a page, behind the pointer. Where it reads there
+// too, a list may follow that it counts: as far as the object goes. The list of a machine's interfaces lies where the program says there.
+static size_t written_by(unsigned long number, const void *into)
+{
+    enum { MOST = 1 << 20 };
+    uintptr_t base;
+    size_t words, least = _IOC_SIZE(number) ? _IOC_SIZE(number) : PAGE;
+    if (_IOC_DIR(number) != (_IOC_READ | _IOC_WRITE) || !mpgc_find((uintptr_t)into, &base, &words)) return least;
+    size_t left = base + words * WORD - (uintptr_t)into;
+    return left < least ? least : left < MOST ? left : MOST;
+}
+
 SHOWN int ioctl(int file, unsigned long number, ...)
 {
     NEXT(int, ioctl, (int, unsigned long, void *));
@@ -220,6 +232,6 @@ SHOWN int ioctl(int file, unsigned long number, ...)
     va_end(rest);
     const struct ifconf *list = number == SIOCGIFCONF ? into : NULL;
     if (list && list->ifc_len > 0) mpgc_will_write(list->ifc_buf, (size_t)list->ifc_len);
-    if (GC_is_heap_ptr(into)) mpgc_will_write(into, _IOC_SIZE(number) ? _IOC_SIZE(number) : PAGE);
+    if (GC_is_heap_ptr(into)) mpgc_will_write(into, written_by(number, into));
     SAYS(next(file, number, into));
 }

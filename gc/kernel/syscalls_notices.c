@@ -1,12 +1,15 @@
 // Calls of the C library behind which a thread of its own calls a function of the program (SIGEV_THREAD), of timers and of queues of messages. (Those
 // of `aio_read` are in syscalls_aio.c.) Nobody sees it made: so from here on there may be threads that make requests, or write, and weren't told of.
-// And a timer's blocks every signal, so also faults: a write to a closed page would end the program. Only in libmpgc.so.
+// And a timer's blocks every signal, so also faults: a write to a closed page would end the program. So does the handler of `profil`, which counts in
+// memory of the program. Only in libmpgc.so.
 #include "next.h"
 #include <errno.h>
 #include <mqueue.h>
 #include <pthread.h>
 #include <stdlib.h>
+#include <sys/profil.h>
 #include <time.h>
+#include <unistd.h>
 
 SHOWN int mq_notify(mqd_t queue, const struct sigevent *event)
 {
@@ -28,6 +31,16 @@ static pthread_mutex_t lock = PTHREAD_MUTEX_INITIALIZER;
 static struct notice *all, *gone, **last_gone = &gone;
 static size_t gone_count;
 static atomic_bool is_used;  // else no handler of signals that deletes a timer waits for the lock
+
+// In a child, which has none of its parent's timers, and where the thread that had the lock isn't.
+static void begin_anew(void)
+{
+    lock = (pthread_mutex_t)PTHREAD_MUTEX_INITIALIZER;
+    all = gone = NULL;
+    last_gone = &gone;
+    gone_count = 0;
+}
+__attribute__((constructor)) static void take_forks(void) { pthread_atfork(NULL, NULL, begin_anew); }
 
 static void call(union sigval which)
 {
@@ -105,4 +118,22 @@ SHOWN int timer_delete(timer_t timer)
     NEXT(int, timer_delete, (timer_t));
     if (atomic_load(&is_used)) unlink_notice(timer);
     return next(timer);
+}
+
+// The handler is set again, by the layer's sigaction, and so without faults being blocked.
+static int with_faults(int answer)
+{
+    struct sigaction counts;
+    if (answer == 0 && sigaction(SIGPROF, NULL, &counts) == 0) sigaction(SIGPROF, &counts, NULL);
+    return answer;
+}
+SHOWN int profil(unsigned short *into, size_t bytes, size_t from, unsigned scale)
+{
+    NEXT(int, profil, (unsigned short *, size_t, size_t, unsigned));
+    return with_faults(next(into, bytes, from, scale));
+}
+SHOWN int sprofil(struct prof *all, int count, struct timeval *tick, unsigned flags)
+{
+    NEXT(int, sprofil, (struct prof *, int, struct timeval *, unsigned));
+    return with_faults(next(all, count, tick, flags));
 }

@@ -89,6 +89,21 @@ TELLS_THREE(getresgid, gid_t)
 CONTROLS(fcntl)
 CONTROLS(fcntl64)
 
+// A process is made, whose number is told, or a file for it; and its own copy of the memory may be told too. The words are there where the flags say so.
+SHOWN int clone(int (*start)(void *), void *stack, int flags, void *data, ...)
+{
+    NEXT(int, clone, (int (*)(void *), void *, int, void *, pid_t *, void *, pid_t *));
+    va_list rest;
+    va_start(rest, data);
+    pid_t *number = va_arg(rest, pid_t *);
+    void *local = va_arg(rest, void *);
+    pid_t *in_child = va_arg(rest, pid_t *);
+    va_end(rest);
+    if (flags & (CLONE_PARENT_SETTID | CLONE_PIDFD)) mpgc_will_write(number, sizeof *number);
+    if (flags & CLONE_CHILD_SETTID) mpgc_will_write(in_child, sizeof *in_child);
+    SAYS(next(start, stack, flags, data, number, local, in_child));
+}
+
 // Memory is locked as it is touched: the addresses of the largest heap would all take memory at once, and more than most machines have.
 SHOWN int mlockall(int flags)
 {

@@ -51,20 +51,21 @@ SHOWN int semctl(int set, int number, int command, ...)
     SAYS(next(set, number, command, into));
 }
 
+// Most tell behind the first word, and some behind a later one: what the program was started with (PR_GET_AUXV) is the longest.
 SHOWN int prctl(int option, ...)
 {
-    enum { MOST = 16, WORDS = 4 };
+    enum { MOST = 1024, WORDS = 4 };
     NEXT(int, prctl, (int, unsigned long, unsigned long, unsigned long, unsigned long));
     unsigned long words[WORDS];
     va_list rest;
     va_start(rest, option);
     for (int k = 0; k < WORDS; k++) words[k] = va_arg(rest, unsigned long);
     va_end(rest);
-    will_write_as_far((void *)words[0], MOST);
+    for (int k = 0; k < WORDS; k++) will_write_as_far((void *)words[k], MOST);
     SAYS(next(option, words[0], words[1], words[2], words[3]));
 }
 
-// Of another process, whose registers are most of what is told at once.
+// Of another process, whose registers are most of what is told at once. A set of them comes to where the program says there.
 SHOWN long ptrace(enum __ptrace_request request, ...)
 {
     NEXT(long, ptrace, (enum __ptrace_request, pid_t, void *, void *));
@@ -73,7 +74,9 @@ SHOWN long ptrace(enum __ptrace_request request, ...)
     pid_t process = va_arg(rest, pid_t);
     void *address = va_arg(rest, void *), *into = va_arg(rest, void *);
     va_end(rest);
+    const struct iovec *set = request == PTRACE_GETREGSET ? into : NULL;
     will_write_as_far(into, PAGE);
+    if (set) mpgc_will_write(set->iov_base, set->iov_len);
     SAYS(next(request, process, address, into));
 }
 
@@ -87,3 +90,9 @@ SHOWN int capget(void *version, void *into)
     will_write_as_far(into, MOST);
     SAYS(next(version, into));
 }
+
+// Of this thread's registers that hold addresses, and of the segments that it has made.
+SHOWN int arch_prctl(int option, unsigned long *into);
+OPENS(int, arch_prctl, (int option, unsigned long *into), (option, into), into, sizeof *into)
+SHOWN int modify_ldt(int what, void *into, unsigned long bytes);
+OPENS(int, modify_ldt, (int what, void *into, unsigned long bytes), (what, into, bytes), into, bytes)

@@ -1,14 +1,15 @@
-// Functions of the C library that hand the program's places on to the kernel, as in syscalls.c, where one wouldn't look for a call of it: sleeping and
-// times of C11, answers of name servers, quotas and the kernel's log. Only in libmpgc.so.
+// Functions of the C library that hand the program's places on to the kernel, as in syscalls.c, where one wouldn't look for a call of it: times
+// of C11, answers of name servers, of who keeps users and names of machines (nscd), quotas and the kernel's log. Only in libmpgc.so.
 #include "next.h"
+#include <grp.h>
+#include <netdb.h>
 #include <netinet/in.h>
+#include <pwd.h>
 #include <resolv.h>
 #include <sys/klog.h>
 #include <sys/quota.h>
-#include <threads.h>
 #include <time.h>
 
-OPENS(int, thrd_sleep, (const struct timespec *wanted, struct timespec *left), (wanted, left), left, sizeof *left)
 OPENS(int, timespec_get, (struct timespec *into, int base), (into, base), into, sizeof *into)
 SHOWN int timespec_getres(struct timespec *into, int base);
 OPENS(int, timespec_getres, (struct timespec *into, int base), (into, base), into, sizeof *into)
@@ -49,3 +50,21 @@ ANSWERS(querydomain, (const char *host, const char *domain, int class, int type,
         (state, host, domain, class, type, into, bytes))
 ANSWERS(send, (const unsigned char *question, int length, unsigned char *into, int bytes), (question, length, into, bytes),
         (res_state state, const unsigned char *question, int length, unsigned char *into, int bytes), (state, question, length, into, bytes))
+
+// What is kept of users, groups, machines and services is read into the buffer, where it comes from a process that keeps it.
+#define KEPT(name, kind, words, values) \
+    OPENS(int, name, (words, struct kind *into, char *buffer, size_t bytes, struct kind **found), (values, into, buffer, bytes, found), buffer, bytes)
+#define KEPT_OF_MACHINE(name, words, values) \
+    OPENS(int, name, (words, struct hostent *into, char *buffer, size_t bytes, struct hostent **found, int *why), \
+          (values, into, buffer, bytes, found, why), buffer, bytes)
+#define TWO(first, second) first, second
+#define THREE(first, second, third) first, second, third
+KEPT(getpwnam_r, passwd, const char *name, name)
+KEPT(getpwuid_r, passwd, uid_t user, user)
+KEPT(getgrnam_r, group, const char *name, name)
+KEPT(getgrgid_r, group, gid_t group, group)
+KEPT(getservbyname_r, servent, TWO(const char *name, const char *by), TWO(name, by))
+KEPT(getservbyport_r, servent, TWO(int port, const char *by), TWO(port, by))
+KEPT_OF_MACHINE(gethostbyname_r, const char *name, name)
+KEPT_OF_MACHINE(gethostbyname2_r, TWO(const char *name, int family), TWO(name, family))
+KEPT_OF_MACHINE(gethostbyaddr_r, THREE(const void *address, socklen_t length, int family), THREE(address, length, family))

@@ -5,7 +5,8 @@
 
 // Figures, which everybody may write: whatever they say, no object is lost.
 struct figures {
-    uint64_t since, total, freed;  // words: asked for since the last collection and in all, and freed since
+    uint64_t since, total;         // words: asked for since the last collection, and in all
+    uint64_t taken, freed;         // words of the objects that were asked for since, and of those that were freed: as they lie, both
     uint64_t next;                 // words asked for at which a request looks what is due
     uint64_t marked, described;    // words of ordinary objects that the last collection has read, and of described ones
     uint64_t roots;                // and of roots: bytes
@@ -31,6 +32,7 @@ HIDDEN void mpgc_was_called_under_lock(void);
 
 // steps.c
 HIDDEN enum piece mpgc_first_piece(void);
+HIDDEN size_t mpgc_left_in_batch(void);
 HIDDEN enum piece mpgc_piece_after(enum piece piece, uint64_t did, uint64_t *left);
 HIDDEN void mpgc_drop_cycle(void);
 
@@ -48,8 +50,9 @@ HIDDEN void mpgc_will_be_threaded(void);
 // environment.c
 HIDDEN void mpgc_read_environment(void);
 
-// kinds.c
+// kinds.c and disclaimed.c. The kind of an object that is asked before it goes, or -1.
 HIDDEN void *mpgc_malloc_kind(size_t bytes, int kind);
+HIDDEN int mpgc_disclaimed_kind(uintptr_t base);
 
 // told.c
 HIDDEN void mpgc_tell_event(GC_EventType event);
@@ -61,10 +64,12 @@ HIDDEN void *mpgc_out_of_memory(size_t bytes);
 // of_threads.c. The thread stops, or goes on.
 HIDDEN void mpgc_tell_of_thread(GC_EventType event, pthread_t thread);
 
-// finalizers.c and toggles.c, at a cycle's end, while no other thread runs; a request; and what is freed
+// finalizers.c, toggles.c and disclaimed.c, at a cycle's end, while no other thread runs; a request; and what is freed
 HIDDEN bool mpgc_has_to_find(void);
 HIDDEN void mpgc_mark_toggled(void);
+HIDDEN void mpgc_mark_from_disclaimed(void);
 HIDDEN void mpgc_find_ready(void);
+HIDDEN void mpgc_find_disclaimed(void);
 HIDDEN void mpgc_take_ready(void);
 HIDDEN void mpgc_tell_ready(void);
 HIDDEN void mpgc_forget_finalizer(uintptr_t base);

@@ -13,7 +13,6 @@ HIDDEN void mpgc_drop_toggled(void);
 // disclaimed.c
 HIDDEN bool mpgc_has_disclaimed(void);
 HIDDEN void *mpgc_note_disclaimed(void *object, int kind);
-HIDDEN void mpgc_find_disclaimed(void);
 HIDDEN void mpgc_call_disclaimed(void);
 HIDDEN void mpgc_forget_disclaimed(uintptr_t base);
 

@@ -47,7 +47,7 @@ static void let_others_run(void)
     GC_alloc_unlock();
     if (!mpgc_has_lock()) {
         mpgc_give_way();
-        mpgc_call_kernel(SYS_nanosleep, &moment, NULL);
+        if (!mpgc_stops_nobody()) mpgc_call_kernel(SYS_nanosleep, &moment, NULL);
     }
     GC_alloc_lock();
 }

@@ -1,6 +1,6 @@
 // Objects of kinds of which a function of the program is asked before they go (disclaim). At a cycle's end those that nothing reaches are
-// marked, with all that they lead to; when the others run again the function is called. One that it lets go isn't asked for any more, and
-// goes at the next cycle's end.
+// marked, with all that they lead to, behind links and finalizers, so that no link leads to them; when the others run again the function is
+// called. One that it lets go isn't asked for any more, and goes at the next cycle's end.
 #include "awaited.h"
 #include <stdlib.h>
 
@@ -8,64 +8,112 @@ typedef int (*disclaim)(void *object);
 enum { KINDS = 64 };
 static disclaim of_kind[KINDS];
 static bool marks_from[KINDS];  // what an object leads to is kept until it was asked itself
-static struct object { GC_hidden_pointer hidden; int kind; bool is_asked; } *all;
+static struct object { GC_hidden_pointer hidden; int kind; bool is_asked; uint32_t next; } *all;
 static size_t count, room;
+static uint32_t *chains;  // by which each is found: of numbers from 1 on
 
 bool mpgc_has_disclaimed(void) { return count > 0; }
+
+static uint32_t *place_of(GC_hidden_pointer hidden)
+{
+    static uint32_t none;
+    uint32_t *at = room == 0 ? &none : &chains[hidden / GRANULE * 0x9E3779B97F4A7C15u >> 20 & (room - 1)];
+    while (*at != 0 && all[*at - 1].hidden != hidden) at = &all[*at - 1].next;
+    return at;
+}
+
+static void put(struct object one)
+{
+    uint32_t *at = place_of(one.hidden);
+    one.next = 0;
+    all[count] = one;
+    *at = (uint32_t)++count;
+}
+
+// The last one stands there then.
+static void drop(size_t k)
+{
+    *place_of(all[k].hidden) = all[k].next;
+    if (k == --count) return;
+    *place_of(all[count].hidden) = (uint32_t)k + 1;
+    all[k] = all[count];
+}
+
+static bool has_room(void)
+{
+    if (count < room) return true;
+    size_t larger = room ? 2 * room : 64, many = count;
+    struct object *made = realloc(all, larger * sizeof *made);
+    if (made) all = made;
+    uint32_t *longer = made ? calloc(larger, sizeof *longer) : NULL;
+    if (!longer) return false;
+    free(chains);
+    chains = longer;
+    room = larger;
+    for (count = 0; count < many;) put(all[count]);
+    return true;
+}
 
 // An object of this kind was made.
 void *mpgc_note_disclaimed(void *object, int kind)
 {
-    if (!object || kind < 0 || kind >= KINDS || !of_kind[kind] || GC_find_leak) return object;
+    if (!GC_is_heap_ptr(object) || kind < 0 || kind >= KINDS || !of_kind[kind] || GC_find_leak) return object;
     GC_alloc_lock();
-    struct object *larger = count < room ? all : realloc(all, (2 * room + 64) * sizeof *all);
-    if (larger && count == room) room = 2 * room + 64;
-    if (larger) all = larger;
     mpgc_know_more((uintptr_t)object);
-    if (larger) all[count++] = (struct object){ GC_HIDE_POINTER(object), kind, false };
+    if (has_room()) put((struct object){ GC_HIDE_POINTER(object), kind, false, 0 });
     GC_alloc_unlock();
     return object;
 }
 
-static void mark_what_they_lead_to(void)
+// Before links and finalizers, which it keeps.
+void mpgc_mark_from_disclaimed(void)
 {
     uintptr_t base;
     size_t words;
     for (size_t k = 0; k < count; k++)
         if (marks_from[all[k].kind] && !mpgc_is_marked(~all[k].hidden) && mpgc_find(~all[k].hidden, &base, &words))
             mpgc_mark_from_words(base, words, true);
-    mpgc_mark_all();
 }
 
 void mpgc_find_disclaimed(void)
 {
-    if (count == 0) return;
-    mark_what_they_lead_to();
     for (size_t k = 0; k < count; k++) all[k].is_asked = !mpgc_is_marked(~all[k].hidden);
     for (size_t k = 0; k < count; k++)
         if (all[k].is_asked) mpgc_mark_from(~all[k].hidden);
-    mpgc_mark_all();
 }
 
-// The cycle has ended, other threads run, and the lock is held. The function may make objects, and the table move.
-void mpgc_call_disclaimed(void)
+int mpgc_disclaimed_kind(uintptr_t base)
 {
-    for (size_t k = 0; k < count;) {
-        const struct object one = all[k];
-        bool goes = one.is_asked && of_kind[one.kind](GC_REVEAL_POINTER(one.hidden)) == 0;
-        all[k].is_asked = false;
-        if (goes)
-            all[k] = all[--count];
-        else
-            k++;
-    }
+    GC_alloc_lock();
+    uint32_t number = *place_of(~base);
+    int kind = number != 0 ? all[number - 1].kind : -1;
+    GC_alloc_unlock();
+    return kind;
 }
 
 // An object of the program's is freed, and nothing is asked for it.
 void mpgc_forget_disclaimed(uintptr_t base)
 {
-    for (size_t k = 0; k < count; k++)
-        if (~all[k].hidden == base) all[k--] = all[--count];
+    uint32_t number = *place_of(~base);
+    if (number != 0) drop(number - 1);
+}
+
+// The cycle has ended, other threads run, and the lock is held. The function may make objects, and the table move; or collect, so that others
+// are asked meanwhile and go, and this one, which isn't asked again, stands elsewhere.
+void mpgc_call_disclaimed(void)
+{
+    for (size_t k = 0; k < count;) {
+        const struct object one = all[k];
+        void *volatile object = GC_REVEAL_POINTER(one.hidden);
+        all[k].is_asked = false;
+        bool goes = one.is_asked && of_kind[one.kind](object) == 0;
+        if (!goes)
+            k++;
+        else if (k < count && all[k].hidden == one.hidden)
+            drop(k);
+        else
+            mpgc_forget_disclaimed((uintptr_t)object);
+    }
 }
 
 SHOWN void GC_register_disclaim_proc(int kind, disclaim function, int marks_from_all);

@@ -79,7 +79,7 @@ static bool is_started(void)
 // Room for one more. A request may collect, so the table is whole before it.
 static bool has_room(void)
 {
-    if (!is_started() || !has_room_to_ask()) return false;
+    if (!is_started()) return false;
     if (count < room) return true;
     size_t larger = room ? 2 * room : 64;
     struct entry **made = GC_malloc(larger * sizeof *made), **old = all->chains;
@@ -95,6 +95,7 @@ static bool has_room(void)
 static struct entry *make(void *object, GC_finalization_proc function, void *data, enum order order)
 {
     struct entry *made = has_room() ? GC_malloc(sizeof *made) : NULL;
+    if (!has_room_to_ask()) return NULL;  // behind all requests, under which a function of the program may register others
     if (made) *made = (struct entry){ NULL, GC_HIDE_POINTER(object), NULL, data, function, order };
     return made;
 }
@@ -136,8 +137,8 @@ static void mark_from_inside(const struct asked *one)
 {
     uintptr_t base;
     size_t words;
-    if (one->order == NO_ORDER || one->order == UNREACHABLE || !mpgc_find(one->base, &base, &words)) return;
-    mpgc_mark_from_words(base, words, one->order == NORMAL);
+    if (one->order == NO_ORDER || !mpgc_find(one->base, &base, &words)) return;
+    mpgc_mark_from_words(base, words, one->order != IGNORE_SELF);
 }
 
 // Of those that are ready only where nothing else leads to them, or of the others: what isn't marked is ready, and marked.
@@ -157,28 +158,29 @@ void mpgc_find_ready(void)
     mpgc_mark_all();
     make_ready(false);
     make_ready(true);
-    mpgc_find_disclaimed();
     mpgc_find_leaks();
 }
 
 static void add_ready(struct entry *one)
 {
-    GC_await_finalize_proc tell = GC_get_await_finalize_proc();
     one->object = (void *)object_of(one);
     one->next = NULL;
     *all->ready_end = one;
     all->ready_end = &one->next;
     ready_count++;
     count--;
-    if (tell) tell(one->object);
 }
 
-// The cycle has ended, and nothing was allocated since.
+// The cycle has ended, and nothing was allocated since. The program is told of each object.
 void mpgc_take_ready(void)
 {
+    GC_await_finalize_proc tell = GC_get_await_finalize_proc();
     for (size_t k = 0; k < asked_count; k++) {
         if (k + AHEAD < asked_count) __builtin_prefetch(asked[k + AHEAD].entry);
-        if (asked[k].is_ready) add_ready(take(place_of(asked[k].base)));
+        if (!asked[k].is_ready) continue;
+        struct entry *one = take(place_of(asked[k].base));
+        add_ready(one);
+        if (tell) tell(one->object);
     }
     asked_count = 0;
     mpgc_drop_toggled();
@@ -222,7 +224,6 @@ int GC_invoke_finalizers(void)
 // Where this thread's finalizers are called, if it is there that it calls them; and so often one was in the way of others since.
 static _Thread_local char *calling_at __attribute__((tls_model("initial-exec")));
 static _Thread_local unsigned in_the_way __attribute__((tls_model("initial-exec")));
-static _Thread_local GC_word told_at __attribute__((tls_model("initial-exec")));
 
 // A finalizer that makes requests doesn't call others, at first. But it may have been jumped out of, or never end, so that others are called at last,
 // as by bdwgc. One was jumped out of in any case where the stack goes no further than there.
@@ -235,6 +236,18 @@ static bool is_one_in_the_way(const char *here)
     return false;
 }
 
+// Behind each collection the program is told once, by whichever thread: answers by what, if it is to be.
+static _Atomic GC_word told_at;
+static GC_finalizer_notifier_proc next_to_tell(void)
+{
+    if (told_at == GC_get_gc_no()) return NULL;
+    GC_alloc_lock();
+    GC_finalizer_notifier_proc tell = told_at == GC_get_gc_no() ? NULL : GC_get_finalizer_notifier();
+    if (tell) told_at = GC_get_gc_no();
+    GC_alloc_unlock();
+    return tell;
+}
+
 // After a request or a collection.
 void mpgc_tell_ready(void)
 {
@@ -245,9 +258,8 @@ void mpgc_tell_ready(void)
         calling_at = &here;
         (void)GC_invoke_finalizers();
         calling_at = NULL;
-    } else if (told_at != GC_get_gc_no()) {
-        GC_finalizer_notifier_proc tell = GC_get_finalizer_notifier();
-        if (tell) told_at = GC_get_gc_no();
+    } else {
+        GC_finalizer_notifier_proc tell = next_to_tell();
         if (tell) tell();
     }
 }

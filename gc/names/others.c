@@ -39,7 +39,11 @@ void GC_enumerate_reachable_objects_inner(void (*tell)(void *object, size_t byte
 
 // A program that allocates from lists of its own says what it took and freed.
 SHOWN void GC_incr_bytes_allocd(size_t bytes);
-void GC_incr_bytes_allocd(size_t bytes) { mpgc_figures.since += bytes / WORD; }
+void GC_incr_bytes_allocd(size_t bytes)
+{
+    mpgc_figures.since += bytes / WORD;
+    mpgc_figures.taken += bytes / WORD;
+}
 SHOWN void GC_incr_bytes_freed(size_t bytes);
 void GC_incr_bytes_freed(size_t bytes) { mpgc_figures.freed += bytes / WORD; }
 

@@ -28,6 +28,7 @@ static uint64_t kept;                 // words of ordinary objects that the last
 static size_t allowed;                // pages, which the heap fills before it
 static size_t granted;                // at least so many, since the program asked for them
 static size_t full;                   // the same, or as many as it has already
+static size_t used_then;              // pages in use behind the last one, swept or not
 static bool is_ripe;                  // so much was asked for
 static uint64_t unfilled_until;       // words to ask for, before which the pages can't be filled
 static bool is_settled;               // all pages are swept and open
@@ -102,14 +103,14 @@ static void set_budget_for(size_t used)
 // After a collection. Of a page that isn't swept half counts. What is still to be given out will be asked for from now on.
 void mpgc_set_budget(void)
 {
-    size_t used = mpgc_used_pages();
+    size_t used = used_then = mpgc_used_pages();
     left_over = mpgc_words_in_runs();
     set_budget_for(used - mpgc_pending_pages() / 2);
     full = used < allowed ? allowed : used < allowed + allowed / 4 ? used : allowed + allowed / 4;
     uint64_t asked = mpgc_figures.since + mpgc_words_taken_back(true);
     if (asked > left_over) mpgc_figures.total += asked - left_over;
     mpgc_figures.since = left_over;
-    mpgc_figures.freed = 0;
+    mpgc_figures.taken = mpgc_figures.freed = 0;
     mpgc_figures.next = left_over + BETWEEN_LOOKS;
     mpgc_figures.most_entries = mpgc_figures.entries + (mpgc_figures.entries / 3 > LEAST_ENTRIES ? mpgc_figures.entries / 3 : LEAST_ENTRIES);
     is_ripe = false;
@@ -119,19 +120,30 @@ void mpgc_set_budget(void)
 
 static uint64_t asked_since(void) { return mpgc_figures.since > left_over ? mpgc_figures.since - left_over : 0; }
 
-// Of what was asked for since, what wasn't freed. By this pages fill; but as with bdwgc a collection is due by no less than an eighth of it.
-static uint64_t still_there(void)
+// Of so many words that were there and what was asked for since, what wasn't freed. Of a freed object it isn't known by how many words it was
+// asked for: so it is what the others take, which is no less, but no more than was asked for in all.
+static uint64_t left_of(uint64_t older)
 {
-    uint64_t since = asked_since(), freed = mpgc_figures.freed;
-    return since > freed ? since - freed : 0;
+    uint64_t asked = older + asked_since(), taken = older + mpgc_figures.taken, freed = mpgc_figures.freed;
+    uint64_t left = taken > freed ? taken - freed : 0;
+    return left < asked ? left : asked;
 }
 
-// What was asked for since, and wasn't freed, is no part of what was kept.
-static void settle(void)
+// By this pages fill; but as with bdwgc a collection is due by no less than an eighth of what was asked for.
+static uint64_t still_there(void) { return left_of(0); }
+
+// Pages that were in use when the last collection had ended, once all is swept: without what was asked for since and wasn't freed; and with what
+// was freed of older ones, since that is taken off what was asked for.
+static size_t used_before(void)
 {
+    uint64_t taken = mpgc_figures.taken, freed = mpgc_figures.freed;
     size_t used = mpgc_used_pages(), newer = still_there() / (PAGE / WORD);
-    set_budget_for(used > newer ? used - newer : 0);
+    if (freed <= taken) return used > newer ? used - newer : 0;
+    size_t older = used + (freed - taken) / (PAGE / WORD), most = used > used_then ? used : used_then;
+    return older < most ? older : most;
 }
+
+static void settle(void) { set_budget_for(used_before()); }
 
 // The program asked for so many pages, for which it wants no collection.
 void mpgc_grant(size_t pages)
@@ -160,18 +172,18 @@ static uint64_t words_before(size_t pages, uint64_t words)
 }
 
 // Pages mostly keep something, so that one which was taken past those allowed stays, and each collection might wait for one more: so a quarter
-// is the most, and what was asked for tells it too, as far as that is known. To count pages takes as long as there are many, so that they
-// aren't counted again before they may be filled.
-static bool has_filled_its_pages(void)
+// is the most, and what was kept or asked for, and not freed, tells it too, as far as that is known. To count pages takes as long as there are many,
+// so that they aren't counted again before they may be filled. Where nearly all is freed that was asked for, the pages are what the program needs.
+static bool has_filled_its_pages(bool is_mostly_freed)
 {
     if (is_ripe && mpgc_figures.since < unfilled_until) return false;
     size_t used = mpgc_used_pages(), most = mpgc_figures.limit / 4 * 3;
-    if (!is_ripe && used > full) {
+    if ((!is_ripe || is_mostly_freed) && used > full) {
         while (allowed < used) allowed += more_than(allowed);
         full = allowed;
     }
     is_ripe = true;
-    uint64_t asked = kept + still_there(), room = allowed * (PAGE / WORD);
+    uint64_t asked = left_of(kept), room = allowed * (PAGE / WORD);
     if (used > full || used >= most || asked >= room) return true;
     unfilled_until = mpgc_figures.since + words_before((full < most ? full : most) - used, room - asked);
     return false;
@@ -183,7 +195,8 @@ static bool is_due(void)
     if ((is_incremental && mpgc_is_in_cycle()) || mpgc_figures.entries > mpgc_figures.most_entries) return true;
     uint64_t due = mpgc_is_beside() ? budget / EARLY : budget;
     if (asked_for() < due) return false;
-    return (makes_steps() && still_there() >= due) || has_filled_its_pages();
+    bool is_mostly_freed = still_there() < due;
+    return (makes_steps() && !is_mostly_freed) || has_filled_its_pages(is_mostly_freed);
 }
 
 static enum due step_or_collection(void)
@@ -193,11 +206,11 @@ static enum due step_or_collection(void)
     return stop && stop() ? NOTHING : STEP;
 }
 
-// The collector has a thread of its own: a request wakes it, or helps it where it lags behind.
+// The collector has a thread of its own: a request wakes it, or helps it where it lags behind with a cycle.
 static enum due due_beside(void)
 {
-    bool is_needed = is_due() || (GC_gc_no > 0 && !is_settled);
-    bool is_late = asked_since() >= budget || mpgc_figures.entries > mpgc_figures.most_entries + LEAST_ENTRIES;
+    bool is_cycle_due = is_due(), is_needed = is_cycle_due || (GC_gc_no > 0 && !is_settled);
+    bool is_late = is_cycle_due && (asked_since() >= budget || mpgc_figures.entries > mpgc_figures.most_entries + LEAST_ENTRIES);
     mpgc_figures.next = !is_needed ? left_over + budget / EARLY : mpgc_figures.since + (is_late ? BETWEEN_LOOKS : BETWEEN_WAKES);
     if (!is_needed) return NOTHING;
     return is_late ? step_or_collection() : WAKE;
@@ -227,6 +240,14 @@ enum due mpgc_due(bool is_asked)
     return is_asked ? NOTHING : TIDYING;
 }
 
+// So many words have to be asked for before the next collection at least. An object takes no more than twice what it was asked for by.
+static uint64_t words_to_due(void)
+{
+    uint64_t asked = asked_since(), taken = mpgc_figures.taken, enough = budget + mpgc_figures.freed;
+    uint64_t left = asked < budget ? budget - asked : 0, half = taken < enough ? (enough - taken) / 2 : 0;
+    return left > half ? left : half;
+}
+
 // Where nothing was left to do, the next look is at the next collection.
 void mpgc_tidied(bool did_some)
 {
@@ -234,7 +255,7 @@ void mpgc_tidied(bool did_some)
         settle();
         is_settled = true;
     }
-    uint64_t most = left_over + budget + mpgc_figures.freed;
+    uint64_t most = mpgc_figures.since + words_to_due();
     if (is_settled && most > mpgc_figures.next) mpgc_figures.next = most;
 }
 

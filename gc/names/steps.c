@@ -42,6 +42,9 @@ bool mpgc_roots_are_read(void) { return next == MARK; }
 static bool reads_roots(enum piece piece) { return piece == ROOTS || piece == END; }
 bool mpgc_will_read_roots(void) { return reads_roots(next); }
 
+// So many pages are read again before words are marked.
+size_t mpgc_left_in_batch(void) { return left_in_batch; }
+
 // Another collection has the heap now, or the cycle ends.
 void mpgc_drop_cycle(void)
 {

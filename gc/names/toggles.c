@@ -5,21 +5,34 @@
 #include "locked.h"
 #include <stdlib.h>
 
+enum { DROPPED };  // hides no object
 static struct toggled { GC_hidden_pointer hidden; bool is_strong; } *all;
 static size_t count, room;
 static GC_toggleref_func ask;
 
 bool mpgc_has_toggled(void) { return count > 0; }
 
+// Where the object is that stood here when the program was asked. Its function may collect, so that others are asked and go, and those behind them
+// stand further down.
+static size_t place_of(GC_hidden_pointer hidden, size_t k)
+{
+    while (k >= count || all[k].hidden != hidden)
+        if (k-- == 0) return count;
+    return k;
+}
+
 // A collection begins, or ends, and other threads still run.
 void mpgc_ask_toggled(void)
 {
-    size_t left = 0;
     for (size_t k = 0; ask && k < count; k++) {
-        GC_ToggleRefStatus said = ask(GC_REVEAL_POINTER(all[k].hidden));
-        if (said != GC_TOGGLE_REF_DROP) all[left++] = (struct toggled){ all[k].hidden, said == GC_TOGGLE_REF_STRONG };
+        GC_hidden_pointer hidden = all[k].hidden;
+        if (hidden == DROPPED) continue;
+        GC_ToggleRefStatus said = ask(GC_REVEAL_POINTER(hidden));
+        size_t at = place_of(hidden, k);
+        if (at == count) continue;
+        k = at;
+        all[k] = (struct toggled){ said == GC_TOGGLE_REF_DROP ? DROPPED : hidden, said == GC_TOGGLE_REF_STRONG };
     }
-    if (ask) count = left;
 }
 
 void mpgc_mark_toggled(void)
@@ -28,7 +41,7 @@ void mpgc_mark_toggled(void)
         if (all[k].is_strong) mpgc_mark_from(~all[k].hidden);
 }
 
-// A cycle has ended: what has gone isn't asked for again.
+// A cycle has ended: what was dropped, or has gone, isn't asked for again.
 void mpgc_drop_toggled(void)
 {
     size_t left = 0, words;

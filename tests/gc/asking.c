@@ -106,6 +106,98 @@ static NOINLINE void disclaims(void)
     CHECK(let_go >= MANY - 3 && let_go <= MANY);
     CHECK(asked >= 2 * let_go);
 }
+/* One that was moved to other places is asked too, and once. */
+enum { MOVED = 815 };
+static int moved_asked;
+static int note_moved(void *object)
+{
+    uint64_t *words = object;
+    moved_asked += words[0] == MOVED;
+    words[0] = 0;
+    return 0;
+}
+static NOINLINE void make_moved(int kind)
+{
+    for (int k = 0; k < MANY; k++) {
+        uint64_t *one = GC_generic_malloc(40, kind);
+        one[0] = MOVED;
+        (void)GC_realloc(GC_realloc(one, 400), 4000 + 400 * (size_t)k);
+    }
+}
+static NOINLINE void moved(void)
+{
+    static const GC_word descriptors[] = { 0, 3 * sizeof(GC_word), (GC_word)1 << 63 | GC_DS_BITMAP };
+    for (int k = 0; k < 6; k++) {
+        int kind = (int)GC_new_kind(GC_new_free_list(), descriptors[k / 2], k / 2 == 0 && k % 2, 1);
+        GC_register_disclaim_proc(kind, note_moved, 0);
+        moved_asked = 0;
+        make_moved(kind);
+        for (int j = 0; j < 3; j++) collect();
+        CHECK(moved_asked >= MANY - 3 && moved_asked <= MANY);
+    }
+}
+
+/* Many of them that the program frees aren't asked. */
+static NOINLINE void freed(void)
+{
+    enum { ALL = 100000 };
+    int kind = (int)GC_new_kind(GC_new_free_list(), 0, 1, 1);
+    GC_register_disclaim_proc(kind, note_moved, 0);
+    uint64_t **all = GC_malloc(ALL * sizeof *all);
+    moved_asked = 0;
+    for (int k = 0; k < ALL; k++) *(all[k] = GC_generic_malloc(40, kind)) = MOVED;
+    for (int k = 0; k < ALL; k++) GC_free(all[k * 7919ll % ALL]);
+    memset(all, 0, ALL * sizeof *all);
+    collect();
+    CHECK(moved_asked == 0);
+}
+
+/* What one that stays leads to isn't finalized, and its links are there; no link leads to one any more that was asked. Its first word is odd, since
+ * bdwgc knows by that that it is used. */
+enum { STAYS = 4711 };
+struct staying { uint64_t stays; uint64_t *to; };
+static int stays_asked, finalized_within;
+static void *within[MANY];
+static GC_hidden_pointer asked_one[MANY];
+static int stay(void *object)
+{
+    int is_used = ((struct staying *)object)->stays == STAYS;
+    stays_asked += is_used;
+    return is_used;
+}
+static void count_within(void *object, void *data)
+{
+    (void)object;
+    ++*(int *)data;
+}
+static NOINLINE void make_staying(int kind)
+{
+    for (int k = 0; k < MANY; k++) {
+        struct staying *one = GC_generic_malloc(sizeof *one, kind);
+        *one = (struct staying){ STAYS, GC_malloc(24) };
+        GC_register_finalizer(one->to, count_within, &finalized_within, NULL, NULL);
+        within[k] = (void *)GC_HIDE_POINTER(one->to);
+        GC_general_register_disappearing_link(&within[k], one->to);
+        asked_one[k] = GC_HIDE_POINTER(one);
+        GC_register_long_link((void **)&asked_one[k], one);
+    }
+}
+static NOINLINE void stay_asked(void)
+{
+    int kind = (int)GC_new_kind(GC_new_free_list(), 0, 1, 1), there = 0, linked = 0;
+    GC_register_disclaim_proc(kind, stay, 1);
+    make_staying(kind);
+    for (int k = 0; k < 3; k++) collect();
+    for (int k = 0; k < MANY; k++) {
+        there += within[k] != NULL;
+        linked += asked_one[k] != 0;
+        if (within[k]) GC_unregister_disappearing_link(&within[k]);
+    }
+    CHECK(stays_asked >= MANY - 3);
+    CHECK(there == MANY && finalized_within == 0);
+    CHECK(linked <= 3);
+}
+
 static int finalized, bad_data;
 static void count_finalized(void *object, void *data)
 {
@@ -154,6 +246,25 @@ static NOINLINE void other_roots(void)
 }
 
 #ifndef OTHER
+/* The function collects once: what it drops before, and what goes meanwhile, moves none of those that stay. */
+static int has_collected;
+static GC_ToggleRefStatus ask_and_collect(void *object)
+{
+    uint64_t number = *(uint64_t *)object - 1000;
+    if (number == MANY / 2 && !has_collected++) GC_gcollect();
+    return number % 4 == 0 ? GC_TOGGLE_REF_DROP : number % 4 == 1 ? GC_TOGGLE_REF_WEAK : GC_TOGGLE_REF_STRONG;
+}
+static NOINLINE void toggles_that_collect(void)
+{
+    int strong = 0;
+    GC_set_toggleref_func(ask_and_collect);
+    make_toggled();
+    collect();
+    for (int k = 0; k < MANY; k++) strong += k % 4 >= 2 && hidden[k] != 0 && *(uint64_t *)GC_REVEAL_POINTER(hidden[k]) == 1000 + (uint64_t)k;
+    CHECK(has_collected && strong == MANY / 2);
+    forget_all();
+}
+
 /* A function that is asked makes more of its kind, so that what is known of them is moved: each object is asked for once. */
 static int kind_of_makers;
 static unsigned char times_asked[MANY];
@@ -181,6 +292,32 @@ static NOINLINE void makers(void)
     for (int k = 0; k < MANY; k++) often += times_asked[k] > 1;
     CHECK(often == 0);
 }
+
+/* One that collects, so that the others are asked meanwhile, and the first goes: each is asked until it says so, and goes once. */
+enum { FIRST, ONE, OTHER_ONE, COLLECTOR, ALL_ASKED };
+static int kind_of_collectors, times[ALL_ASKED], gone[ALL_ASKED];
+static int go_later(void *object)
+{
+    const uint64_t *number = object;
+    if (*number == 0) return 0;
+    int k = (int)*number - 1, goes = times[k]++ >= (k == COLLECTOR ? 0 : k == FIRST ? 1 : 2);
+    if (k == COLLECTOR) GC_gcollect();
+    gone[k] += goes;
+    return !goes;
+}
+static NOINLINE void make_collector(void)
+{
+    for (uint64_t k = 1; k <= ALL_ASKED; k++) *(uint64_t *)GC_generic_malloc(sizeof k, kind_of_collectors) = k;
+}
+static NOINLINE void collector(void)
+{
+    kind_of_collectors = (int)GC_new_kind(GC_new_free_list(), 0, 0, 1);
+    GC_register_disclaim_proc(kind_of_collectors, go_later, 0);
+    make_collector();
+    for (int k = 0; k < 6; k++) collect();
+    CHECK(times[COLLECTOR] == 1);
+    for (int k = 0; k < ALL_ASKED; k++) CHECK(gone[k] == 1);
+}
 #endif
 
 int main(void)
@@ -190,10 +327,15 @@ int main(void)
     toggles();
     toggles_late();
     disclaims();
+    moved();
+    freed();
+    stay_asked();
     finalized_ones();
     other_roots();
 #ifndef OTHER
+    toggles_that_collect();
     makers();
+    collector();
 #endif
     return check_ends();
 }

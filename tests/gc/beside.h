@@ -6,11 +6,15 @@
 
 static _Atomic int is_over;
 
-/* A stop interrupts it. */
+/* A stop interrupts it. By what the kernel says is left it might never end (sleeping.c), so it sleeps until a time. */
 static inline void rest(double seconds)
 {
-    struct timespec left = { (time_t)seconds, (long)((seconds - (double)(time_t)seconds) * 1e9) };
-    while (nanosleep(&left, &left) != 0) continue;
+    enum { SECOND = 1000000000 };
+    struct timespec until;
+    clock_gettime(CLOCK_MONOTONIC, &until);
+    long part = until.tv_nsec + (long)((seconds - (double)(time_t)seconds) * SECOND);
+    until = (struct timespec){ until.tv_sec + (time_t)seconds + part / SECOND, part % SECOND };
+    while (clock_nanosleep(CLOCK_MONOTONIC, TIMER_ABSTIME, &until, NULL) != 0) continue;
 }
 
 static inline void *collect(void *data)

@@ -48,7 +48,7 @@ static inline int stops_with(void (*body)(void), const char *words)
     return WIFSIGNALED(status) && WTERMSIG(status) == SIGABRT && strstr(said, words) != NULL;
 }
 
-/* Runs the body in a child, and answers its status. What the child says is said. */
+/* Runs the body in a child, and answers its status. What the child says is said, and the signal that ended it. */
 static inline int status_of(int (*body)(void))
 {
     int status;
@@ -60,6 +60,7 @@ static inline int status_of(int (*body)(void))
         _exit(status);
     }
     waitpid(child, &status, 0);
+    if (WIFSIGNALED(status)) printf("ended by signal %d\n", WTERMSIG(status));
     return WIFEXITED(status) ? WEXITSTATUS(status) : -1;
 }
 #endif

@@ -10,10 +10,10 @@
 #include <sched.h>
 #include <signal.h>
 #include <stdint.h>
-#include <time.h>
 #include "gc.h"
 #include <gc/gc_mark.h>
 #include "check.h"
+#include "drawn.h"
 #include "waits.h"
 #include "watch.h"
 
@@ -30,26 +30,13 @@ static double until;
 static GC_word wanted; /* so many collections, or the machine is too busy for the test */
 enum { PATIENCE = 120 }; /* seconds more, for these */
 
-static double now(void)
-{
-    struct timespec time;
-    clock_gettime(CLOCK_MONOTONIC, &time);
-    return (double)time.tv_sec + (double)time.tv_nsec / 1e9;
-}
-
 static void pause_for(long microseconds)
 {
     struct timespec some = { 0, microseconds * 1000 };
     nanosleep(&some, NULL);
 }
 
-static uint64_t draw(struct graph *graph, uint64_t below)
-{
-    graph->state ^= graph->state << 13;
-    graph->state ^= graph->state >> 7;
-    graph->state ^= graph->state << 17;
-    return (graph->state >> 8) % below;
-}
+static uint64_t draw(struct graph *graph, uint64_t below) { return drawn(&graph->state) % below; }
 
 static struct node *new_node(uint64_t *tag, struct node *child)
 {
@@ -464,6 +451,23 @@ static void behind_calls(void)
     CHECK(readings >= 200 && early == 0);
 }
 
+/* What is asked for and freed again begins no cycle, also where the collector's thread couldn't look meanwhile. */
+static void none_for_what_is_freed(void)
+{
+    enum { BYTES = 1 << 20, KEPT = 20, FREED = 100 };
+    GC_word divisor = GC_get_free_space_divisor();
+    void *volatile kept = GC_malloc(KEPT * (size_t)BYTES);
+    GC_set_free_space_divisor(1);
+    GC_gcollect();
+    GC_alloc_lock();
+    GC_word before = GC_get_gc_no();
+    for (int k = 0; k < FREED; k++) GC_free(GC_malloc_atomic(BYTES));
+    CHECK(GC_get_gc_no() == before);
+    GC_alloc_unlock();
+    GC_free(kept);
+    GC_set_free_space_divisor(divisor);
+}
+
 int main(int count, char **words)
 {
     double seconds = count > 1 ? atof(words[1]) : 2;
@@ -471,6 +475,7 @@ int main(int count, char **words)
     GC_set_free_space_divisor(40);
     GC_INIT();
     GC_enable_collector_thread();
+    none_for_what_is_freed();
     page = GC_malloc(2 * SLOTS * sizeof *page);
     behind_calls();
     alone(seconds / 4);

@@ -4,6 +4,7 @@
 #define GC_THREADS
 #include <errno.h>
 #include <linux/futex.h>
+#include <poll.h>
 #include <pthread.h>
 #include <stdatomic.h>
 #include <sys/mman.h>
@@ -40,6 +41,27 @@ static void of_many_pages(void)
     CHECK(syscall(SYS_pread64, file, text, LENGTH, 0L) == LENGTH && memcmp(text, source, LENGTH) == 0);
     end();
     close(file);
+}
+
+/* What is counted, and takes more bytes than pages that are opened together have: for poll the next word counts it, for move_pages an early one. */
+static void of_what_is_counted(void)
+{
+    enum { FILES = 5000 };
+    struct pollfd *files = GC_malloc(FILES * sizeof *files);
+    int *nodes = GC_malloc(FILES * sizeof *nodes), ends[2];
+    void **pages = malloc(FILES * sizeof *pages);
+    if (pipe(ends) != 0) return;
+    for (int k = 0; k < FILES; k++) {
+        files[k] = (struct pollfd){ .fd = ends[1], .events = POLLOUT };
+        pages[k] = &ends;
+    }
+    begin();
+    CHECK(syscall(SYS_poll, files, (long)FILES, 0L) == FILES ? files[FILES - 1].revents == POLLOUT : errno == EINVAL);
+    CHECK(syscall(SYS_move_pages, 0L, (long)FILES, pages, NULL, nodes, 0L) == 0 || errno == ENOSYS || errno == EPERM);
+    end();
+    free(pages);
+    close(ends[0]);
+    close(ends[1]);
 }
 
 /* 0 is free, 1 taken, 2 taken and waited for. */
@@ -92,5 +114,6 @@ int main(void)
     GC_enable_incremental();
     of_what_is_told();
     of_many_pages();
+    of_what_is_counted();
     return check_ends();
 }

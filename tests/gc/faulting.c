@@ -10,6 +10,7 @@
 #include "gc.h"
 #include "beside.h"
 #include "check.h"
+#include "watch.h"
 
 /* A thread that is made with every signal blocked writes to pages that are closed. */
 enum { MANY = 20000 };
@@ -25,7 +26,6 @@ static int made_blocked(void)
     pthread_attr_t attributes;
     sigset_t every;
     pthread_t thread;
-    alarm(60);
     GC_enable_incremental();
     for (int k = 0; k < MANY; k++) all_of_them[k] = GC_malloc(64);
     sigfillset(&every);
@@ -52,7 +52,6 @@ static int writes_to_one_word(void)
     pthread_t all[3];
     int answer = 0;
     time_t latest = time(NULL) + 10;
-    alarm(100);
     GC_enable_incremental();
     one_word = GC_malloc(64);
     is_over = writers = 0;
@@ -76,7 +75,6 @@ static void open_it(int number)
 }
 static int protects_itself(void)
 {
-    alarm(60);
     GC_enable_incremental();
     signal(SIGSEGV, open_it);
     for (int k = 0; k < 300000; k++) GC_malloc(64);
@@ -94,7 +92,6 @@ static int protects_itself(void)
 static void *volatile kept[3000];
 static int protects_what_is_pointer_free(void)
 {
-    alarm(60);
     GC_enable_incremental();
     signal(SIGSEGV, open_it);
     for (int k = 0; k < 300000; k++) kept[k % 3000] = GC_malloc(64);
@@ -110,12 +107,13 @@ static int protects_what_is_pointer_free(void)
 
 int main(void)
 {
-    alarm(300);
+    pid_t watcher = watch(300);
     GC_INIT();
     GC_allow_register_threads();
-    CHECK(status_of(made_blocked) == 0);
-    CHECK(status_of(writes_to_one_word) == 0);
-    CHECK(status_of(protects_itself) == 0);
-    CHECK(status_of(protects_what_is_pointer_free) == 0);
+    CHECK(ends_well(made_blocked, 60));
+    CHECK(ends_well(writes_to_one_word, 100));
+    CHECK(ends_well(protects_itself, 60));
+    CHECK(ends_well(protects_what_is_pointer_free, 60));
+    kill(watcher, SIGKILL);
     return check_ends();
 }

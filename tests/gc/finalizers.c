@@ -40,7 +40,8 @@ static struct object *make(uint64_t number, struct object *to)
     return made;
 }
 
-/* A chain of MANY: the first is reached by nothing, each other by the one before. A topological order: each by its own collection. */
+/* A chain of MANY: the first is reached by nothing, each other by the one before. A topological order: each by its own collection, also of those
+ * that go only where nothing else leads to them. */
 static __attribute__((noinline)) void make_chain(int by)
 {
     struct object *next = NULL;
@@ -48,13 +49,15 @@ static __attribute__((noinline)) void make_chain(int by)
         next = make((uint64_t)k, next);
         if (by == 0) GC_register_finalizer(next, note, NULL, NULL, NULL);
         if (by == 1) GC_register_finalizer_no_order(next, note, NULL, NULL, NULL);
+        if (by == 2 && k % 2) GC_register_finalizer_unreachable(next, note, NULL, NULL, NULL);
+        if (by == 2 && k % 2 == 0) GC_register_finalizer(next, note, NULL, NULL, NULL);
     }
 }
-static void chain_goes_in_order(void)
+static void chain_goes_in_order(int by)
 {
     int is_right = 1;
     count = 0;
-    make_chain(0);
+    make_chain(by);
     for (int k = 0; k < 3 * MANY && count < MANY; k++) {
         clear_stack();
         GC_gcollect();
@@ -356,22 +359,78 @@ static void again_and_again(void)
     CHECK(revived >= 400);
 }
 
+static void start(void)
+{
+    GC_INIT();
+    if (getenv("INCREMENTAL")) GC_enable_incremental();
+}
+
+#ifndef OTHER
+/* A function that a collection calls registers others, in the middle of another registration: of so many, each in that of the one before. In a
+ * heap of its own, whose tables begin. */
+enum { BEFORE = 63, DEEP = 40 };
+static int depth, is_registering;
+static struct object *earlier[BEFORE + DEEP];
+static void register_within(void)
+{
+    int mine = depth;
+    if (mine == DEEP || !is_registering) return;
+    depth++;
+    earlier[BEFORE + mine] = make(5, NULL);
+    while (depth <= mine + 1 && depth < DEEP) {
+        is_registering = 1;
+        GC_register_finalizer(earlier[BEFORE + mine], note, NULL, NULL, NULL);
+        is_registering = 0;
+        if (depth == mine + 1) GC_register_finalizer(earlier[BEFORE + mine], NULL, NULL, NULL, NULL);
+    }
+}
+static int registered_within(void)
+{
+    start();
+    count = 0;
+    for (int k = 0; k < BEFORE; k++) GC_register_finalizer(earlier[k] = make(5, NULL), note, NULL, NULL, NULL);
+    GC_set_start_callback(register_within);
+    is_registering = 1;
+    register_within();
+    memset(earlier, 0, sizeof earlier);
+    collect();
+    GC_set_start_callback(NULL);
+    return depth == DEEP && count >= BEFORE + DEEP - 5 ? 0 : 1;
+}
+#endif
+
+/* The program is told of those that nothing reaches, and not of those that are finalized since it asks for all. */
+static int awaited;
+static void await(void *object)
+{
+    (void)object;
+    awaited++;
+}
 static void all_at_the_end(void)
 {
+    GC_set_await_finalize_proc(await);
+    make_some();
+    count = 0;
+    collect();
+    CHECK(count >= 8 && awaited >= count);
+    awaited = 0;
     count = 0;
     for (int k = 0; k < MANY; k++) {
         reached[k] = make((uint64_t)k, NULL);
         GC_register_finalizer(reached[k], note, NULL, NULL, NULL);
     }
     GC_finalize_all();
-    CHECK(count >= MANY);
+    CHECK(count >= MANY && awaited == 0);
 }
 
 int main(void)
 {
-    GC_INIT();
-    if (getenv("INCREMENTAL")) GC_enable_incremental();
-    chain_goes_in_order();
+#ifndef OTHER
+    CHECK(status_of(registered_within) == 0);
+#endif
+    start();
+    chain_goes_in_order(0);
+    chain_goes_in_order(2);
     chain_goes_at_once();
     finalizers_keep();
     reached_stay();

@@ -206,6 +206,23 @@ static void figures_go_on(void)
     CHECK(freed >= 6400 && freed <= 100 * 96);
 }
 
+/* What is freed counts as the words that the objects take, small ones and large ones, those that a run takes back and those that the core frees; and
+ * what is asked for as no more, and no less than was asked for, but for what a run has. */
+static void counts_as_it_lies(size_t bytes)
+{
+    enum { MANY = 300, IN_RUN = 4 * 4096 };
+    static void *all[MANY];
+    size_t taken = 0, asked = GC_get_total_bytes(), freed = GC_get_expl_freed_bytes_since_gc();
+    for (int k = 0; k < MANY; k++) {
+        all[k] = memset(GC_malloc(bytes), 1, bytes);
+        taken += GC_size(all[k]);
+    }
+    asked = GC_get_total_bytes() - asked;
+    CHECK(asked + IN_RUN >= MANY * bytes && asked <= taken + IN_RUN);
+    for (int k = 0; k < MANY; k++) GC_free(all[k]);
+    CHECK(GC_get_expl_freed_bytes_since_gc() - freed == taken);
+}
+
 /* Objects of the program and of a handler that comes at any moment, each with its number in all of its words. */
 static uint64_t numbers, wrong;
 static void fill(uint64_t *object, size_t words)
@@ -307,6 +324,7 @@ int main(void)
     none_comes_twice(48);
     none_comes_twice(600);
     figures_go_on();
+    for (size_t bytes = 1; bytes < 20000; bytes += bytes / 3 + 1) counts_as_it_lies(bytes);
     GC_enable();
     old_ones_come_back();
     beside_a_handler();

@@ -313,6 +313,33 @@ static NOINLINE void ranges(void)
     CHECK(count_kept() == 200);
 #endif
     memset(excluded, 0, sizeof excluded);
+    GC_exclude_static_roots(range + 50, range + 150);
+    GC_add_roots(range, range + 200);
+    fill(range, 200);
+    clear_stack();
+    GC_gcollect();
+    CHECK(count_kept() >= 100 && count_kept() < 100 + STRAY);
+    GC_remove_roots(range, range + 200);
+#ifndef OTHER
+    GC_clear_exclusion_table();
+#endif
+    free(range);
+}
+
+/* A table that grows is read once, and all of it. */
+static NOINLINE void growing_range(void)
+{
+    enum { LENGTH = 40000 };
+    void **range = calloc(LENGTH, sizeof *range);
+    for (int k = 1; k <= LENGTH; k++) GC_add_roots(range, range + k);
+    fill(range + LENGTH - 200, 200);
+    clear_stack();
+    GC_gcollect();
+    CHECK(count_kept() == 200);
+    GC_remove_roots(range, range + LENGTH);
+    clear_stack();
+    GC_gcollect();
+    CHECK(count_kept() < STRAY);
     free(range);
 }
 
@@ -346,28 +373,6 @@ static NOINLINE void no_room(void)
     GC_set_oom_fn(old);
     GC_set_warn_proc(GC_ignore_warn_proc);
     GC_set_warn_proc(old_warn);
-}
-
-static NOINLINE void pairs(void)
-{
-#define PAIR(set, get, value) do { set(value); CHECK(get() == (value)); } while (0)
-    GC_word divisor = GC_get_free_space_divisor();
-    PAIR(GC_set_free_space_divisor, GC_get_free_space_divisor, 7);
-    PAIR(GC_set_free_space_divisor, GC_get_free_space_divisor, divisor);
-    PAIR(GC_set_finalize_on_demand, GC_get_finalize_on_demand, 1);
-    PAIR(GC_set_java_finalization, GC_get_java_finalization, 1);
-    PAIR(GC_set_max_retries, GC_get_max_retries, 2);
-    PAIR(GC_set_full_freq, GC_get_full_freq, 5);
-    PAIR(GC_set_time_limit, GC_get_time_limit, 9);
-    PAIR(GC_set_rate, GC_get_rate, 12);
-    PAIR(GC_set_min_bytes_allocd, GC_get_min_bytes_allocd, 100);
-    PAIR(GC_set_dont_expand, GC_get_dont_expand, 0);
-    PAIR(GC_set_find_leak, GC_get_find_leak, 0);
-    PAIR(GC_set_disable_automatic_collection, GC_get_disable_automatic_collection, 1);
-    PAIR(GC_set_disable_automatic_collection, GC_get_disable_automatic_collection, 0);
-    CHECK(GC_get_version() >> 16 == 8 && GC_is_init_called());
-    CHECK(GC_all_interior_pointers == 1 && GC_get_all_interior_pointers() == 1);
-    CHECK(GC_should_invoke_finalizers() == 0 && GC_invoke_finalizers() == 0);
 }
 
 static void *itself(void *data) { return data; }
@@ -442,42 +447,10 @@ static NOINLINE void stops(void)
     CHECK(stops_with(GC_clear_mark_bit, "no mark can be taken away"));
     CHECK(GC_thread_is_registered() && GC_register_my_thread(NULL) == GC_DUPLICATE);
 }
-
-/* A heap of at most one megabyte. */
-static int fills(void)
-{
-    GC_set_warn_proc(GC_ignore_warn_proc);
-    size_t bytes = 0;
-    for (void **list = NULL, **next; (next = GC_malloc(1000)); list = next) {
-        next[0] = list;
-        bytes += 1000;
-    }
-    return bytes > 900000 && GC_get_heap_size() <= 1 << 20 ? 0 : 1;
-}
-static int fills_set(void)
-{
-    GC_set_max_heap_size(1 << 20);
-    return fills();
-}
-static int exact_sizes(void)
-{
-    GC_set_all_interior_pointers(0);
-    return GC_size(GC_malloc(16)) == 16 && GC_size(GC_malloc(64)) == 64 ? 0 : 1;
-}
-
-static NOINLINE void alone(void)
-{
-    CHECK(status_of(fills_set) == 0);
-    CHECK(status_of(exact_sizes) == 0);
-    CHECK(GC_size(GC_malloc(16)) == 32);
-}
 #endif
 
 int main(void)
 {
-#ifndef OTHER
-    alone();
-#endif
     GC_INIT();
     requests();
     texts();
@@ -489,6 +462,7 @@ int main(void)
     collections();
     figures();
     ranges();
+    growing_range();
     no_room();
     calls();
     finalizers();
@@ -501,6 +475,5 @@ int main(void)
     reallocs();
     kinds();
     while_it_marks();
-    pairs();
     return check_ends();
 }

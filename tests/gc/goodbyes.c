@@ -5,12 +5,15 @@
 #include <malloc.h>
 #include <pthread.h>
 #include <sched.h>
+#include <semaphore.h>
 #include <signal.h>
 #include <stdint.h>
 #include <sys/stat.h>
+#include <sys/syscall.h>
 #include "gc.h"
 #include "beside.h"
 #include "check.h"
+#include "watch.h"
 
 enum { THREADS = 300 };
 
@@ -55,7 +58,6 @@ static int first_is_destroyed_late(void)
 {
     static pthread_t first;
     pthread_t thread;
-    alarm(60);
     first = pthread_self();
     if (pthread_create(&thread, NULL, collect_behind, &first) != 0 || pthread_setspecific(key, &key) != 0) return 1;
     pthread_exit(NULL);
@@ -149,26 +151,43 @@ static void *set_last(void *data)
     set_last_key(object_of_keys);
     return data;
 }
-static int keys_leave_nothing_behind(void)
+static int leave_nothing_behind(void *(*set)(void *))
 {
     enum { MANY = 3000, MOST = 1000 }; /* of each it was a page */
     long before = 0;
     object_of_keys = GC_malloc(16);
-    if (pthread_key_create(&last_key, set_last_key) != 0) return 1;
     for (int k = 0; k < MANY; k++) {
         pthread_t thread;
         if (k == 100) before = resident();
-        if (pthread_create(&thread, NULL, set_last, NULL) != 0 || pthread_join(thread, NULL) != 0) return 1;
+        if (pthread_create(&thread, NULL, set, NULL) != 0 || pthread_join(thread, NULL) != 0) return 1;
         if (k % 16 == 0) GC_gcollect();
     }
     return resident() - before > MOST ? 2 : 0;
 }
+static int keys_leave_nothing_behind(void)
+{
+    return pthread_key_create(&last_key, set_last_key) != 0 ? 1 : leave_nothing_behind(set_last);
+}
 
-/* A thread that is known from the beginning says that it goes, and goes on for some time: its record is written no more. */
+/* Nor one that was set by a thread that tells then itself that it goes. */
+static void *set_and_tell(void *data)
+{
+    pthread_setspecific(last_key, object_of_keys);
+    GC_unregister_my_thread();
+    return data;
+}
+static int told_ones_leave_nothing_behind(void)
+{
+    return pthread_key_create(&last_key, NULL) != 0 ? 1 : leave_nothing_behind(set_and_tell);
+}
+
+/* A thread that is known from the beginning says that it goes, and goes on for some time: its record is written no more, where nobody will ask
+ * what it answers. */
 static _Atomic int stage;
 static void *says_that_it_goes(void *data)
 {
     GC_malloc(16);
+    pthread_detach(pthread_self());
     GC_unregister_my_thread();
     stage = 1;
     while (stage == 1) sched_yield();
@@ -178,9 +197,8 @@ static void unregistered(size_t bytes) /* of the blocks that come in the record'
 {
     enum { BLOCKS = 300 };
     unsigned char *blocks[BLOCKS];
-    int others = 0;
+    int others = 0, before = threads_here();
     pthread_t thread;
-    void *answer = NULL;
     pthread_create(&thread, NULL, says_that_it_goes, &stage);
     while (stage == 0) sched_yield();
     for (int k = 0; k < BLOCKS; k++) {
@@ -188,25 +206,86 @@ static void unregistered(size_t bytes) /* of the blocks that come in the record'
         memset(blocks[k], 0, malloc_usable_size(blocks[k]));
     }
     stage = 2;
-    pthread_join(thread, &answer);
+    while (threads_here() > before) sched_yield();
     for (int k = 0; k < BLOCKS; k++)
         for (size_t i = 0; i < malloc_usable_size(blocks[k]); i++) others += blocks[k][i] != 0;
     stage = 0;
-    CHECK(others == 0 && answer == &stage);
+    CHECK(others == 0);
+}
+
+/* A detached thread that asked behind its last goodbye waits in its very end, with all signals blocked, in `free`: of what the C library has of a
+ * stack that it keeps no longer. There a stopped thread might be: so no stop waits for it. Where it comes there otherwise, nothing is tried. */
+extern void __libc_free(void *at);
+static sem_t is_at_its_end, may_end;
+static _Thread_local int rounds_here, has_asked_last;
+void free(void *at)
+{
+    uint64_t blocked = 0;
+    if (has_asked_last && syscall(SYS_rt_sigprocmask, SIG_BLOCK, NULL, &blocked, sizeof blocked) == 0 && blocked >> (SIGPWR - 1) & 1) {
+        has_asked_last = 0;
+        sem_post(&is_at_its_end);
+        sem_wait(&may_end);
+    }
+    __libc_free(at);
+}
+static pthread_key_t late_key;
+static void ask_late(void *data)
+{
+    enum { ROUNDS = 4 };
+    GC_malloc(16);
+    if (++rounds_here < ROUNDS)
+        pthread_setspecific(late_key, data);
+    else
+        has_asked_last = 1;
+}
+static void *set_late(void *data)
+{
+    if (data) pthread_setspecific(late_key, data);
+    return NULL;
+}
+static int run_with_stack(size_t megabytes, void *data)
+{
+    pthread_t thread;
+    pthread_attr_t large;
+    pthread_attr_init(&large);
+    pthread_attr_setstacksize(&large, megabytes << 20);
+    pthread_attr_setdetachstate(&large, PTHREAD_CREATE_DETACHED);
+    return pthread_create(&thread, &large, set_late, data);
+}
+static int is_left_at_its_end(void)
+{
+    int before = threads_here();
+    sem_init(&is_at_its_end, 0, 0);
+    sem_init(&may_end, 0, 0);
+    if (pthread_key_create(&late_key, ask_late) != 0 || run_with_stack(64, NULL) != 0) return 1;
+    while (threads_here() > before) sched_yield();
+    if (run_with_stack(128, &late_key) != 0) return 2;
+    while (sem_trywait(&is_at_its_end) != 0) {
+        if (threads_here() <= before) return 0;
+        sched_yield();
+    }
+    GC_gcollect();
+    sem_post(&may_end);
+    while (threads_here() > before) sched_yield();
+    GC_gcollect();
+    return 0;
 }
 
 int main(void)
 {
-    alarm(300);
+    pid_t watcher = watch(300);
     GC_INIT();
     GC_allow_register_threads();
     unregistered(256);
     unregistered(200);
     destroyed_late();
-    CHECK(status_of(first_is_destroyed_late) == 0);
+    CHECK(ends_well(first_is_destroyed_late, 60));
+    CHECK(ends_well(is_left_at_its_end, 100));
     CHECK(status_of(leaves_nothing_behind) == 0);
     CHECK(status_of(keys_leave_nothing_behind) == 0);
+    CHECK(status_of(told_ones_leave_nothing_behind) == 0);
     CHECK(ends_in_time(last_is_destroyed_late));
     CHECK(ends_in_time(last_is_destroyed_late_beside_the_collector));
+    kill(watcher, SIGKILL);
     return check_ends();
 }

@@ -10,6 +10,7 @@
 #include <ucontext.h>
 #include "gc.h"
 #include "check.h"
+#include "watch.h"
 
 enum { LENGTH = 300, BYTES = 1 << 18, GUARD = 4096 };
 struct node { struct node *next; uint64_t value; };
@@ -152,7 +153,7 @@ static void on_stacks_of_malloc(void)
 int main(void)
 {
     struct sigaction action = { .sa_handler = on_signal, .sa_flags = SA_ONSTACK | SA_RESTART };
-    alarm(300);
+    pid_t watcher = watch(300);
     GC_INIT();
     if (sigaction(SIGUSR1, &action, NULL) != 0) abort();
     work = collect_often;
@@ -168,5 +169,6 @@ int main(void)
     CHECK(lost == 0);
     on_stacks_of_malloc();
     CHECK(lost == 0);
+    kill(watcher, SIGKILL);
     return check_ends();
 }

@@ -1,5 +1,6 @@
-/* Functions that are left otherwise than by a return: one that GC_do_blocking has called, and one that only writes, by a cancellation, and
- * finalizers, by a jump. What comes behind is as ever. Over bdwgc (OTHER) the finalizers alone. */
+/* Functions that are left otherwise than by a return: one that GC_do_blocking has called, and one that only writes, by a cancellation; finalizers,
+ * and one that is called under the lock, by a jump; and such a one by its thread's end. What comes behind is as ever. Over bdwgc (OTHER) the
+ * jumps alone. */
 #define _GNU_SOURCE
 #define GC_THREADS
 #include <pthread.h>
@@ -16,6 +17,7 @@
 #include "gc.h"
 #endif
 #include "check.h"
+#include "watch.h"
 
 static void rest(long milliseconds)
 {
@@ -146,7 +148,6 @@ static void *make_steps(void *data)
 static int is_cancelled_while_it_writes(void)
 {
     pthread_t stepper, writers[WRITERS];
-    alarm(180);
     GC_enable_incremental();
     written = GC_malloc_uncollectable(OBJECTS * sizeof *written);
     for (int k = 0; k < OBJECTS; k++) written[k] = GC_malloc(OBJECT);
@@ -200,17 +201,57 @@ static void jumped_out_of_a_finalizer(void)
     CHECK(runs_others_below(50) >= 20);
 }
 
+/* While there is one thread: its finalizers are called behind it, and others work that it makes then. */
+static void *jump_back(void *data)
+{
+    (void)data;
+    longjmp(back, 1);
+}
+static void *ask_for_many(void *data)
+{
+    for (int k = 0; k < 1000; k++) (void)GC_MALLOC(100);
+    GC_gcollect();
+    return data;
+}
+static int asks_in_a_thread(void)
+{
+    pthread_t thread;
+    return pthread_create(&thread, NULL, ask_for_many, NULL) == 0 && pthread_join(thread, NULL) == 0;
+}
+static int jumped_out_of_the_lock(void)
+{
+    if (setjmp(back) == 0) GC_call_with_alloc_lock(jump_back, NULL);
+    ran = 0;
+    make_finalized(30);
+    for (int k = 0; k < 3; k++) GC_gcollect();
+    return ran > 0 && asks_in_a_thread() ? 0 : 1;
+}
+
+#ifndef OTHER
+static void *go(void *data) { pthread_exit(data); }
+static void *go_with_the_lock(void *data) { return GC_call_with_alloc_lock(go, data); }
+static int ended_under_the_lock(void)
+{
+    pthread_t thread;
+    if (pthread_create(&thread, NULL, go_with_the_lock, NULL) != 0 || pthread_join(thread, NULL) != 0) return 2;
+    return asks_in_a_thread() ? 0 : 1;
+}
+#endif
+
 int main(void)
 {
-    alarm(600);
+    pid_t watcher = watch(600);
     GC_INIT();
     if (getenv("INCREMENTAL")) GC_enable_incremental();
+    CHECK(ends_well(jumped_out_of_the_lock, 60));
     jumped_out_of_a_finalizer();
 #ifndef OTHER
+    CHECK(ends_well(ended_under_the_lock, 60));
     cancelled_while_blocked(NULL);
     cancelled_while_blocked(&stage);
     destroyed_again_and_again();
-    CHECK(status_of(is_cancelled_while_it_writes) == 0);
+    CHECK(ends_well(is_cancelled_while_it_writes, 180));
 #endif
+    kill(watcher, SIGKILL);
     return check_ends();
 }

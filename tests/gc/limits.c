@@ -14,6 +14,7 @@
 #define GC_REQUIRE_WCSDUP
 #include "gc.h"
 #include "check.h"
+#include "watch.h"
 
 enum { MEGABYTE = 1 << 20 };
 static char reserve[64];
@@ -76,7 +77,6 @@ static int may_jump_out_of_a_registration(void)
     static int made;
     void *answer = NULL;
     pthread_t thread;
-    alarm(60);
     GC_set_max_heap_size(2 * MEGABYTE);
     GC_set_warn_proc(GC_ignore_warn_proc);
     GC_allow_register_threads();
@@ -462,7 +462,7 @@ int main(void)
     CHECK(status_of(hands_on_a_reserve) == 0);
     CHECK(status_of(counts_what_was_given) == 0);
     CHECK(status_of(refuses_what_cannot_be) == 0);
-    CHECK(status_of(may_jump_out_of_a_registration) == 0);
+    CHECK(ends_well(may_jump_out_of_a_registration, 60));
     CHECK(status_of(long_texts_leave_errno) == 0);
     CHECK(status_of(warns_each_time) == 0);
     CHECK(status_of(large_requests) == 0);

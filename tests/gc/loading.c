@@ -1,14 +1,18 @@
-/* What the layer does for the first time while another thread loads an object whose constructor waits for the layer's lock: nothing of it may
- * wait for the loader's. Each in a child of its own, which is ended if it hangs. The word is the file of loaded_calling.c, built as a shared
+/* What the layer does for the first time while another thread loads an object whose constructor waits for the layer's lock, or for what the
+ * program does by a call that the layer takes: nothing of it may wait for the loader's. Each in a child of its own, which is ended if it hangs. The word is the file of loaded_calling.c, built as a shared
  * object. */
 #define _GNU_SOURCE
 #define GC_THREADS
 #include <dlfcn.h>
 #include <pthread.h>
 #include <sched.h>
+#include <poll.h>
 #include <stdint.h>
+#include <sys/random.h>
+#include <time.h>
 #include "gc.h"
 #include "check.h"
+#include "watch.h"
 
 static const char *file;
 static _Atomic int stage;  /* 1 while the constructor runs, 2 once the main thread has done what it does then */
@@ -31,7 +35,6 @@ static int beside_loading(void (*collect)(void))
     char address[20];
     pthread_t thread;
     void *answer = NULL;
-    alarm(30);
     snprintf(address, sizeof address, "%llx", (unsigned long long)(uintptr_t)ask_while_loading);
     setenv("CALLED_WHILE_LOADING", address, 1);
     GC_disable();
@@ -62,11 +65,21 @@ static int makes_steps(void)
     return beside_loading(ask_until_collected);
 }
 
+static void call_the_kernel(void)
+{
+    char bytes[8];
+    nanosleep(&(struct timespec){ 0, 1000 }, NULL);
+    poll(NULL, 0, 0);
+    if (getrandom(bytes, sizeof bytes, 0) == sizeof bytes) GC_gcollect();
+}
+static int calls(void) { return beside_loading(call_the_kernel); }
+
 int main(int count, char **words)
 {
     file = count > 1 ? words[1] : "";
-    CHECK(status_of(collects) == 0);
-    CHECK(status_of(asks) == 0);
-    CHECK(status_of(makes_steps) == 0);
+    CHECK(ends_well(collects, 60));
+    CHECK(ends_well(asks, 60));
+    CHECK(ends_well(makes_steps, 60));
+    CHECK(ends_well(calls, 60));
     return check_ends();
 }

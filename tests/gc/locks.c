@@ -11,9 +11,10 @@
 #include "gc.h"
 #include "beside.h"
 #include "check.h"
+#include "states.h"
 #include "watch.h"
 
-enum { THREADS = 3, TURNS = 20, LONGEST = 20 };
+enum { THREADS = 3, TURNS = 20, LONGEST = 60 };
 static struct all {
     pthread_mutex_t mutex, other;
     pthread_cond_t cond;
@@ -74,21 +75,21 @@ static void add_slowly(void)
     all->count = seen + 1;
 }
 
-/* Some seconds from now. */
-static const struct timespec *soon(clockid_t clock)
+/* Some time from now, that nobody waits for so long: what hangs is ended. */
+static const struct timespec *much_later(clockid_t clock)
 {
     static _Thread_local struct timespec until;
     clock_gettime(clock, &until);
-    until.tv_sec += 10;
+    until.tv_sec += 3600;
     return &until;
 }
 
 static int take_by_turns(int turn)
 {
     switch (turn % 4) {
-    case 0: return pthread_mutex_timedlock(&all->mutex, soon(CLOCK_REALTIME));
+    case 0: return pthread_mutex_timedlock(&all->mutex, much_later(CLOCK_REALTIME));
     case 1: return pthread_mutex_trylock(&all->mutex) == 0 ? 0 : pthread_mutex_lock(&all->mutex);
-    case 2: return pthread_mutex_clocklock(&all->mutex, CLOCK_REALTIME, soon(CLOCK_REALTIME));
+    case 2: return pthread_mutex_clocklock(&all->mutex, CLOCK_REALTIME, much_later(CLOCK_REALTIME));
     default: return pthread_mutex_lock(&all->mutex);
     }
 }
@@ -112,8 +113,8 @@ static int of_mutex(void)
 static int wait_by_turns(int turn)
 {
     switch (turn % 3) {
-    case 0: return pthread_cond_timedwait(&all->cond, &all->mutex, soon(CLOCK_REALTIME));
-    case 1: return pthread_cond_clockwait(&all->cond, &all->mutex, CLOCK_MONOTONIC, soon(CLOCK_MONOTONIC));
+    case 0: return pthread_cond_timedwait(&all->cond, &all->mutex, much_later(CLOCK_REALTIME));
+    case 1: return pthread_cond_clockwait(&all->cond, &all->mutex, CLOCK_MONOTONIC, much_later(CLOCK_MONOTONIC));
     default: return pthread_cond_wait(&all->cond, &all->mutex);
     }
 }
@@ -137,8 +138,8 @@ static int of_condition(void)
 static int wait_for_semaphore(sem_t *semaphore, int turn)
 {
     switch (turn % 3) {
-    case 0: return sem_clockwait(semaphore, CLOCK_MONOTONIC, soon(CLOCK_MONOTONIC));
-    case 1: return sem_timedwait(semaphore, soon(CLOCK_REALTIME));
+    case 0: return sem_clockwait(semaphore, CLOCK_MONOTONIC, much_later(CLOCK_MONOTONIC));
+    case 1: return sem_timedwait(semaphore, much_later(CLOCK_REALTIME));
     default: return sem_wait(semaphore);
     }
 }
@@ -178,10 +179,10 @@ static int of_barrier(void)
 static void *read_and_write(void *number)
 {
     for (int k = 0; k < TURNS; k++) {
-        failures += (k % 2 ? pthread_rwlock_wrlock(&all->lock) : pthread_rwlock_timedwrlock(&all->lock, soon(CLOCK_REALTIME))) != 0;
+        failures += (k % 2 ? pthread_rwlock_wrlock(&all->lock) : pthread_rwlock_timedwrlock(&all->lock, much_later(CLOCK_REALTIME))) != 0;
         add_slowly();
         failures += pthread_rwlock_unlock(&all->lock) != 0;
-        failures += (k % 2 ? pthread_rwlock_rdlock(&all->lock) : pthread_rwlock_timedrdlock(&all->lock, soon(CLOCK_REALTIME))) != 0;
+        failures += (k % 2 ? pthread_rwlock_rdlock(&all->lock) : pthread_rwlock_timedrdlock(&all->lock, much_later(CLOCK_REALTIME))) != 0;
         rest(0.0002);
         failures += pthread_rwlock_unlock(&all->lock) != 0;
     }
@@ -233,6 +234,32 @@ static int of_the_dead(void)
     return failures;
 }
 
+/* .. and where their page is closed when it does. Without cycles in small steps it never is. */
+static _Atomic int may_die;
+static void *die_later(void *data)
+{
+    die(data);
+    while (!may_die) rest(0.0001);
+    return data;
+}
+static int of_the_dead_on_a_closed_page(void)
+{
+    enum { TRIES = 100 };
+    pthread_t dying;
+    make_all();
+    make_mutex(&elsewhere);
+    left = 1;
+    failures += pthread_create(&dying, NULL, die_later, NULL) != 0;
+    while (left > 0) GC_malloc(64);
+    for (int k = 0; k < TRIES && !is_closed(&all->mutex); k++) GC_start_incremental_collection();
+    may_die = 1;
+    failures += pthread_join(dying, NULL) != 0;
+    inherit(&all->other);
+    inherit(&elsewhere);
+    inherit(&all->mutex);
+    return failures;
+}
+
 /* Mutexes of this kind, and what else there is. */
 static void of_kind(int robust, int how, int whose)
 {
@@ -241,7 +268,9 @@ static void of_kind(int robust, int how, int whose)
     shared = whose;
     CHECK(ends_well(of_mutex, LONGEST));
     CHECK(ends_well(of_condition, LONGEST));
-    if (robust) CHECK(ends_well(of_the_dead, LONGEST));
+    if (!robust) return;
+    CHECK(ends_well(of_the_dead, LONGEST));
+    CHECK(ends_well(of_the_dead_on_a_closed_page, LONGEST));
 }
 
 int main(void)

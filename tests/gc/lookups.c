@@ -11,6 +11,7 @@
 #include <time.h>
 #include "check.h"
 #include "cycle.h"
+#include "states.h"
 #include "watch.h"
 
 static int at;
@@ -175,6 +176,85 @@ static int is_waited_for(void)
     return 0;
 }
 
+/* A thread that is handed what came waits for the lock, which this one has; and this one is handed something meanwhile. */
+static _Atomic int has_come, asks, may_ask, begins;
+static void on_coming(union sigval value)
+{
+    (void)value;
+    has_come = 1;
+}
+/* One that has come, and that nobody was handed: where it comes at once, who asked for it was. */
+static struct gaicb *not_handed_on(void)
+{
+    struct gaicb *block;
+    struct sigevent notice = { .sigev_notify = SIGEV_THREAD, .sigev_notify_function = on_coming };
+    for (;;) {
+        block = block_for("127.0.0.1");
+        has_come = 0;
+        if (getaddrinfo_a(GAI_NOWAIT, &block, 1, &notice) != 0) return NULL;
+        while (!has_come) sched_yield();
+        if (block->__return == EAI_INPROGRESS) return block;
+        freeaddrinfo(block->ar_result);
+    }
+}
+static void *ask_later(void *block)
+{
+    asks = gettid();
+    while (!may_ask) sched_yield();
+    begins = 1;
+    return gai_error(block) == 0 ? block : NULL;
+}
+static void *ask_beside(void *block)
+{
+    may_ask = 1;
+    while (!begins || !is_asleep(asks)) sched_yield();
+    return gai_error(block) == 0 ? block : NULL;
+}
+static int asks_under_the_lock(void)
+{
+    pthread_t thread;
+    void *answer;
+    struct gaicb *other = block_for("127.0.0.2"), *block = not_handed_on();
+    if (!block || getaddrinfo_a(GAI_WAIT, &other, 1, NULL) != 0) return 1;
+    if (pthread_create(&thread, NULL, ask_later, block) != 0) return 2;
+    while (!asks) sched_yield();
+    close_pages();
+    if (!is_closed(block) || GC_call_with_alloc_lock(ask_beside, other) != other) return 3;
+    return pthread_join(thread, &answer) == 0 && answer == block && has_address(block, "127.0.0.1") ? 0 : 4;
+}
+
+/* Children of a fork beside a thread that asks again and again, and looks through many that were never asked for. */
+static _Atomic int is_over;
+static void *ask_again(void *block)
+{
+    while (!is_over) gai_error(block);
+    return block;
+}
+static int forks(void)
+{
+    enum { MANY = 1000, FORKS = 60 };
+    static struct gaicb *left[MANY];
+    int status = 0;
+    pthread_t thread;
+    struct gaicb *block = block_for("127.0.0.1");
+    for (int k = 0; k < MANY; k++) {
+        left[k] = GC_malloc(sizeof **left);
+        left[k]->ar_name = "127.0.0.1";
+        if (getaddrinfo_a(GAI_NOWAIT, &left[k], 1, NULL) != 0) return 1;
+    }
+    if (pthread_create(&thread, NULL, ask_again, block) != 0) return 2;
+    for (int k = 0; k < FORKS && status == 0; k++) {
+        pid_t child = fork();
+        if (child == 0) {
+            alarm(60);
+            _exit(gai_error(block));
+        }
+        waitpid(child, &status, 0);
+    }
+    is_over = 1;
+    return pthread_join(thread, NULL) == 0 && status == 0 ? 0 : 3;
+}
+
 int main(void)
 {
     GC_INIT();
@@ -187,6 +267,8 @@ int main(void)
     CHECK(ends_well(cancels, 60));
     CHECK(ends_well(tells, 60));
     CHECK(ends_well(is_waited_for, 60));
+    CHECK(ends_well(asks_under_the_lock, 60));
+    CHECK(ends_well(forks, 100));
     unlink(pipe_path);
     rmdir(path);
     return check_ends();

@@ -14,6 +14,7 @@
 #include "gc.h"
 #include <gc/gc_typed.h>
 #include "check.h"
+#include "drawn.h"
 #include "watch.h"
 
 void GC_stop_world_external(void);
@@ -40,13 +41,7 @@ static uint64_t sums[THREADS];
 static int rounds;
 static void *links[THREADS][LINKS];
 
-static uint64_t draw(struct own *own, uint64_t below)
-{
-    own->state ^= own->state << 13;
-    own->state ^= own->state >> 7;
-    own->state ^= own->state << 17;
-    return (own->state >> 8) % below;
-}
+static uint64_t draw(struct own *own, uint64_t below) { return drawn(&own->state) % below; }
 
 static void *ask(size_t bytes)
 {
@@ -281,6 +276,18 @@ static void threads_are_there(int at_first)
     CHECK(threads_of_process() == at_first + wanted);
 }
 
+/* They sleep between two collections. */
+static int are_asleep(void)
+{
+    enum { TRIES = 50 };
+    for (int k = 0; k < TRIES; k++) {
+        double before = time_had(CLOCK_PROCESS_CPUTIME_ID);
+        usleep(200000);
+        if (time_had(CLOCK_PROCESS_CPUTIME_ID) - before < 0.002) return 1;
+    }
+    return 0;
+}
+
 /* The process ends with its last thread, though markers are there. Its last thread is this one, which the child has. */
 static int leaves(void)
 {
@@ -333,6 +340,7 @@ int main(int count, char **words)
     for (int k = 0; k < THREADS; k++) pthread_join(all[k], NULL);
     CHECK(lost == 0);
     threads_are_there(at_first);
+    CHECK(are_asleep());
     int children = 0;
     while (children < 3 && ends(in_child)) children++;
     CHECK(children == 3);

@@ -9,8 +9,9 @@
 #include <ucontext.h>
 #include "gc.h"
 #include "check.h"
+#include "traps.h"
 
-enum { TRAP_FLAG = 0x100, ROUND = 64, NEAR = 2, MOST = 2 * ROUND + NEAR, MARK = 7777 };
+enum { ROUND = 64, NEAR = 2, MOST = 2 * ROUND + NEAR, MARK = 7777 };
 enum { IS_STOPPED = 70, IS_SHARED, IS_CHANGED, IS_NOT_NEW, SAYS_SOMETHING_ELSE };
 
 static size_t size;
@@ -110,9 +111,6 @@ static void look_at(uint64_t *object)
     }
     *object = 0;
 }
-
-static void trap(void) { __asm__ volatile("pushfq; orq %0, (%%rsp); popfq" : : "i"(TRAP_FLAG) : "memory", "cc"); }
-static void trap_no_more(void) { __asm__ volatile("pushfq; andq %0, (%%rsp); popfq" : : "i"(~TRAP_FLAG) : "memory", "cc"); }
 
 /* Each moment of the request. Answers whether all went on, or were stopped. */
 static int walk(uint64_t *(*request)(void))

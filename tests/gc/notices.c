@@ -8,6 +8,7 @@
 #include <signal.h>
 #include <stdint.h>
 #include <time.h>
+#include <unistd.h>
 #include "check.h"
 #include "cycle.h"
 #include "watch.h"
@@ -102,11 +103,62 @@ static int of_reading(void)
     return aio_read(block) == 0 && is_told(word) == 0 && aio_error(block) == 0 && aio_return(block) == 4 ? 0 : 1;
 }
 
+/* The handler of profil counts in an ordinary object, whose page is closed: where one would find so many counts this process was. */
+static int of_counts(void)
+{
+    enum { BYTES = 2000, ALL = 65536 };
+    unsigned long sum = 0;
+    GC_INIT();
+    GC_enable_incremental();
+    begin();
+    unsigned short *counts = (void *)ordinary[100], *volatile none = NULL;
+    if (profil(counts, BYTES, (size_t)of_counts, ALL / 2) != 0) return 1;
+    while (clock() < CLOCKS_PER_SEC / 2)
+        for (volatile long k = 0; k < 1000000; k++) continue;
+    if (profil(none, 0, 0, 0) != 0) return 2;
+    for (int k = 0; k < BYTES / 2; k++) sum += counts[k];
+    end();
+    return sum == 0 ? 3 : 0;
+}
+
+/* Children of a fork beside a thread that looks for a timer again and again, among many. */
+static _Atomic int is_over;
+static timer_t no_timer = (timer_t)0x3fffffff;
+static void *look_again(void *data)
+{
+    while (!is_over) timer_delete(no_timer);
+    return data;
+}
+static int of_forks(void)
+{
+    enum { MANY = 500, FORKS = 60 };
+    int status = 0;
+    pthread_t thread;
+    timer_t timer;
+    struct sigevent notice = { .sigev_notify = SIGEV_THREAD, .sigev_notify_function = on_notice };
+    GC_INIT();
+    for (int k = 0; k < MANY; k++)
+        if (timer_create(CLOCK_MONOTONIC, &notice, &timer) != 0) return 1;
+    if (pthread_create(&thread, NULL, look_again, NULL) != 0) return 2;
+    for (int k = 0; k < FORKS && status == 0; k++) {
+        pid_t child = fork();
+        if (child == 0) {
+            alarm(60);
+            _exit(timer_delete(no_timer) == 0);
+        }
+        waitpid(child, &status, 0);
+    }
+    is_over = 1;
+    return pthread_join(thread, NULL) == 0 && status == 0 ? 0 : 3;
+}
+
 int main(void)
 {
     CHECK(ends_well(of_a_timer, 60));
     CHECK(ends_well(of_many, 60));
     CHECK(ends_well(of_a_queue, 60));
     CHECK(ends_well(of_reading, 60));
+    CHECK(ends_well(of_counts, 60));
+    CHECK(ends_well(of_forks, 100));
     return check_ends();
 }

@@ -8,6 +8,7 @@
 #include <string.h>
 #include <sys/mman.h>
 #include "check.h"
+#include "watch.h"
 
 static const char *part;
 static int call_part(int incremental)
@@ -67,10 +68,11 @@ static int by_a_thread(void)
 
 int main(int count, char **words)
 {
-    alarm(300);
+    pid_t watcher = watch(300);
     part = count == 2 ? words[1] : "";
     CHECK(status_of(in_full) == 0);
     CHECK(status_of(in_small_steps) == 0);
     CHECK(status_of(by_a_thread) == 0);
+    kill(watcher, SIGKILL);
     return check_ends();
 }

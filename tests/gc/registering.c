@@ -11,6 +11,7 @@
 #include <time.h>
 #include "gc.h"
 #include "check.h"
+#include "states.h"
 
 struct node { struct node *next; uint64_t value; };
 static sem_t at_rest, may_go;
@@ -115,6 +116,30 @@ static void handling(void)
     sem_post(&may_go);
     pthread_join(thread, NULL);
     collect();
+}
+
+/* What a thread answers that has told that it goes, and has come again, stays until it is asked for. */
+static _Atomic pid_t coming_again;
+static void *comes_again(void *data)
+{
+    struct GC_stack_base base;
+    (void)data;
+    GC_get_stack_base(&base);
+    CHECK(GC_unregister_my_thread() == GC_SUCCESS);
+    CHECK(GC_register_my_thread(&base) == GC_SUCCESS && GC_thread_is_registered());
+    coming_again = gettid();
+    return list_of(17, 1000);
+}
+static void answers(void)
+{
+    pthread_t thread;
+    void *answer = NULL;
+    struct said said;
+    GC_pthread_create(&thread, NULL, comes_again, NULL);
+    while (coming_again == 0 || *said_of(coming_again, "stat", ") ", &said)) sched_yield();
+    collect();
+    GC_pthread_join(thread, &answer);
+    CHECK(is_list(answer, 17, 1000));
 }
 
 /* Blocked, and active in between. */
@@ -247,6 +272,35 @@ static void finalizers(void)
     if (finalized < 11900) printf("  %d finalized\n", finalized);
 }
 
+/* On demand the program is told once behind a collection, whatever threads make requests then. */
+static _Atomic int notified;
+static void notify(void) { notified++; }
+static void *ask_for_many(void *data)
+{
+    list_of(1, 3000);
+    return data;
+}
+static void notifier(void)
+{
+    pthread_t all[4];
+    GC_set_finalize_on_demand(1);
+    make_finalizable((void *)1);
+    GC_gcollect();
+    GC_disable();
+    GC_set_finalizer_notifier(notify);
+    ask_for_many(NULL);
+    for (int k = 0; k < 4; k++) GC_pthread_create(&all[k], NULL, ask_for_many, NULL);
+    for (int k = 0; k < 4; k++) GC_pthread_join(all[k], NULL);
+    CHECK(GC_should_invoke_finalizers() && notified <= 1);
+    GC_enable();
+    GC_gcollect();
+    ask_for_many(NULL);
+    CHECK(notified >= 1);
+    GC_set_finalizer_notifier(0);
+    GC_set_finalize_on_demand(0);
+    GC_invoke_finalizers();
+}
+
 /* The program is told of each stop, and of each thread that stops. */
 static pthread_t watched;
 static int suspended, went_on, is_in_order = 1, stops, starts;
@@ -304,6 +358,7 @@ int main(void)
     registering(others_create);
     registering(pthread_create);
     handling();
+    answers();
     do_blocking();
     events();
 #ifndef OTHER
@@ -311,5 +366,6 @@ int main(void)
 #endif
     calls();
     finalizers();
+    notifier();
     return check_ends();
 }

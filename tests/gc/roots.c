@@ -1,9 +1,12 @@
 /* Objects that one root alone names: each is there after a collection, in full ones and in small steps; and what an atomic object
  * alone names is gone. */
 #define _GNU_SOURCE
+#define GC_THREADS
+#include <pthread.h>
 #include <stdint.h>
 #include "gc.h"
 #include "check.h"
+#include "states.h"
 
 #define NOINLINE __attribute__((noinline))
 enum { MAGIC = 0x5eed, SIZE = 48 }; /* of a size class, so that one byte past it is another cell's */
@@ -160,6 +163,33 @@ static NOINLINE void atomics(void)
     memset(atomic_holders, 0, sizeof atomic_holders);
 }
 
+/* Who clears the table of added ranges waits for one that has the lock, since that one may be adding some. */
+static _Atomic int clears, may_clear, begins, has_cleared;
+static void *clear_roots(void *data)
+{
+    clears = gettid();
+    while (!may_clear) sched_yield();
+    begins = 1;
+    GC_clear_roots();
+    has_cleared = 1;
+    return data;
+}
+static void *await_clearing(void *data)
+{
+    may_clear = 1;
+    while (!has_cleared && !(begins && is_asleep(clears))) sched_yield();
+    return has_cleared ? NULL : data;
+}
+static void cleared_by_another(void)
+{
+    pthread_t thread;
+    if (pthread_create(&thread, NULL, clear_roots, NULL) != 0) abort();
+    while (!clears) sched_yield();
+    CHECK(GC_call_with_alloc_lock(await_clearing, &thread) == &thread);
+    pthread_join(thread, NULL);
+    CHECK(has_cleared);
+}
+
 int main(void)
 {
     GC_INIT();
@@ -169,5 +199,6 @@ int main(void)
     CHECK(deep(30000) == 30001);
     atomics();
     CHECK(deep(100) == 101);
+    cleared_by_another();
     return check_ends();
 }

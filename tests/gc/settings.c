@@ -93,6 +93,27 @@ static NOINLINE void kept_and_given_back(void)
     CHECK(GC_clear_stack(&one) == &one);
 }
 
+static NOINLINE void pairs(void)
+{
+    GC_word divisor = GC_get_free_space_divisor();
+    KEEPS(GC_set_free_space_divisor, GC_get_free_space_divisor, 7);
+    KEEPS(GC_set_free_space_divisor, GC_get_free_space_divisor, divisor);
+    KEEPS(GC_set_finalize_on_demand, GC_get_finalize_on_demand, 1);
+    KEEPS(GC_set_java_finalization, GC_get_java_finalization, 1);
+    KEEPS(GC_set_max_retries, GC_get_max_retries, 2);
+    KEEPS(GC_set_full_freq, GC_get_full_freq, 5);
+    KEEPS(GC_set_time_limit, GC_get_time_limit, 9);
+    KEEPS(GC_set_rate, GC_get_rate, 12);
+    KEEPS(GC_set_min_bytes_allocd, GC_get_min_bytes_allocd, 100);
+    KEEPS(GC_set_dont_expand, GC_get_dont_expand, 0);
+    KEEPS(GC_set_find_leak, GC_get_find_leak, 0);
+    KEEPS(GC_set_disable_automatic_collection, GC_get_disable_automatic_collection, 1);
+    KEEPS(GC_set_disable_automatic_collection, GC_get_disable_automatic_collection, 0);
+    CHECK(GC_get_version() >> 16 == 8 && GC_is_init_called());
+    CHECK(GC_all_interior_pointers == 1 && GC_get_all_interior_pointers() == 1);
+    CHECK(GC_should_invoke_finalizers() == 0 && GC_invoke_finalizers() == 0);
+}
+
 /* The debugging names: what they answer is used and freed by the debugging names alone. */
 static NOINLINE void debugging(void)
 {
@@ -361,9 +382,43 @@ static void all_markers(void)
     has_markers(NULL, 99, NULL, MOST_MARKERS);
 }
 
+#ifndef OTHER
+/* A heap of at most one megabyte. */
+static int fills(void)
+{
+    GC_set_warn_proc(GC_ignore_warn_proc);
+    size_t bytes = 0;
+    for (void **list = NULL, **next; (next = GC_malloc(1000)); list = next) {
+        next[0] = list;
+        bytes += 1000;
+    }
+    return bytes > 900000 && GC_get_heap_size() <= 1 << 20 ? 0 : 1;
+}
+static int fills_set(void)
+{
+    GC_set_max_heap_size(1 << 20);
+    return fills();
+}
+static int exact_sizes(void)
+{
+    GC_set_all_interior_pointers(0);
+    return GC_size(GC_malloc(16)) == 16 && GC_size(GC_malloc(64)) == 64 ? 0 : 1;
+}
+
+static void before_the_heap(void)
+{
+    CHECK(status_of(fills_set) == 0);
+    CHECK(status_of(exact_sizes) == 0);
+    CHECK(GC_size(GC_malloc(16)) == 32);
+}
+#endif
+
 int main(void)
 {
     all_markers();
+#ifndef OTHER
+    before_the_heap();
+#endif
     GC_INIT();
     callbacks();
     figures();
@@ -377,5 +432,6 @@ int main(void)
     stops();
 #endif
     kept_and_given_back();
+    pairs();
     return check_ends();
 }

@@ -8,6 +8,7 @@
 #include "gc.h"
 #include "beside.h"
 #include "check.h"
+#include "watch.h"
 
 enum { SORTING = 2, COLLECTING = 2, LONGEST = 4000, KEY = 500, RIGHT = 77 };
 struct object { uint64_t key, place, right; };
@@ -55,13 +56,15 @@ static void **make(size_t count, size_t words)
     return elements;
 }
 
+/* However little of the processors it has, it sorts some times. */
 static void *sort_often(void *data)
 {
+    enum { SOME = 12 };
     size_t words = (uintptr_t)data, sorts = 0;
     uint64_t random = words;
     int is_right = 1;
     void **elements = make(LONGEST, words);
-    for (; !is_over && is_right; sorts++) {
+    for (; (!is_over || sorts < SOME) && is_right; sorts++) {
         mix(elements, LONGEST, words, &random);
         if (words == 1)
             qsort(elements, LONGEST, sizeof *elements, by_key);
@@ -69,13 +72,14 @@ static void *sort_often(void *data)
             qsort_r(elements, LONGEST, words * sizeof *elements, by_key_of, &words);
         is_right = are_sorted(elements, LONGEST, words);
     }
-    return (void *)(is_right && sorts > 10 ? NULL : data);
+    return is_right ? NULL : data;
 }
 
 /* What is collected is given out again, and written over. */
+static _Atomic int are_sorted_often;
 static void *collect_often(void *data)
 {
-    while (!is_over) {
+    while (!are_sorted_often) {
         GC_gcollect();
         for (int k = 0; k < 5000; k++) ((struct object *)GC_malloc(sizeof(struct object)))->key = KEY;
     }
@@ -134,7 +138,7 @@ static void of_numbers(void)
 int main(void)
 {
     pthread_t all[SORTING + COLLECTING];
-    alarm(300);
+    pid_t watcher = watch(300);
     GC_INIT();
     each_length();
     for (uintptr_t k = 0; k < SORTING; k++) GC_pthread_create(&all[k], NULL, sort_often, (void *)(5 * k + 1));
@@ -145,6 +149,7 @@ int main(void)
         void *answer = all;
         GC_pthread_join(all[k], &answer);
         CHECK(answer == NULL);
+        are_sorted_often = k >= SORTING - 1;
     }
     each_length();
     of_numbers();
@@ -152,5 +157,6 @@ int main(void)
     no_requests(GC_call_with_alloc_lock);
     no_requests(GC_do_blocking);
 #endif
+    kill(watcher, SIGKILL);
     return check_ends();
 }

@@ -4,12 +4,15 @@
 #define GC_THREADS
 #include <pthread.h>
 #include <signal.h>
+#include <dirent.h>
 #include <stdint.h>
 #include <sys/syscall.h>
 #include <time.h>
 #include "gc.h"
 #include "beside.h"
 #include "check.h"
+#include "states.h"
+#include "watch.h"
 
 static _Atomic int stage;
 
@@ -84,7 +87,6 @@ static int handles_signals(void)
 {
     pthread_t makers[2], sender;
     time_t end = time(NULL) + 4;
-    alarm(60);
     for (int k = 0; k < WRITTEN; k++) written[k] = GC_malloc(64);
     sigaction(SIGUSR1, &(struct sigaction){ .sa_handler = write_some, .sa_flags = SA_RESTART }, NULL);
     is_over = 0;
@@ -94,6 +96,33 @@ static int handles_signals(void)
     is_over = 1;
     for (int k = 0; k < 2; k++) pthread_join(makers[k], NULL);
     return pthread_join(sender, NULL);
+}
+
+/* A thread that begins in a stop has a signal that it doesn't block: its handler comes when the world has gone on, and not before. */
+static _Atomic int handled;
+static void count_it(int number) { handled += number == SIGUSR1; }
+static pid_t second_thread(void)
+{
+    pid_t found = 0;
+    DIR *all = opendir("/proc/self/task");
+    for (struct dirent *one; all && (one = readdir(all));)
+        if (*one->d_name != '.' && atoi(one->d_name) != getpid()) found = atoi(one->d_name);
+    if (all) closedir(all);
+    return found;
+}
+static int begins_in_a_stop(void)
+{
+    pthread_t thread;
+    sigaction(SIGUSR1, &(struct sigaction){ .sa_handler = count_it, .sa_flags = SA_RESTART }, NULL);
+    GC_stop_world_external();
+    if (pthread_create(&thread, NULL, ask_once, NULL) != 0) return 1;
+    pid_t begun = second_thread();
+    if (pthread_kill(thread, SIGUSR1) != 0) return 2;
+    while (!handled && !(has_pending(begun, SIGUSR1) && is_asleep(begun))) rest(0.0001);
+    int in_stop = handled;
+    GC_start_world_external();
+    if (pthread_join(thread, NULL) != 0) return 3;
+    return in_stop == 0 && handled == 1 ? 0 : 4;
 }
 
 /* A thread waits for its child by vfork, where the kernel holds its signals back: for longer than one is waited for that is told and doesn't answer. */
@@ -160,18 +189,20 @@ static pid_t begin_in_child(int (*body)(void))
 
 int main(void)
 {
-    alarm(300);
+    pid_t watcher = watch(300);
     GC_INIT();
     GC_allow_register_threads();
     int (*const slow[])(void) = { is_stopped_itself, waits_for_a_slow_one, is_told_of_one_that_blocks };
     pid_t children[3];
     for (int k = 0; k < 3; k++) children[k] = begin_in_child(slow[k]);
-    CHECK(status_of(handles_signals) == 0);
+    CHECK(ends_well(begins_in_a_stop, 60));
+    CHECK(ends_well(handles_signals, 60));
     cancelled();
     for (int k = 0; k < 3; k++) {
         int status = -1;
         while (waitpid(children[k], &status, 0) < 0) continue;
         CHECK(WIFEXITED(status) && WEXITSTATUS(status) == 0);
     }
+    kill(watcher, SIGKILL);
     return check_ends();
 }

@@ -9,6 +9,8 @@
 #include "gc.h"
 #include "beside.h"
 #include "check.h"
+#include "states.h"
+#include "watch.h"
 
 /* Suspended as soon as it is made: it doesn't run before it is told to, and collections find what it has. */
 extern void GC_suspend_thread(pthread_t thread);
@@ -63,8 +65,8 @@ static int suspends_itself(void)
 {
     pthread_t thread;
     void *answer = NULL;
-    alarm(100);
-    is_over = steps = 0;
+    is_over = 0;
+    steps = 0;
     sigaction(SIGTRAP, &(struct sigaction){ .sa_handler = ask_for_a_collection }, NULL);
     pthread_create(&thread, NULL, suspend_itself, &steps);
     for (int idle = 0; !is_over; idle++, rest(0.00005)) {
@@ -93,7 +95,6 @@ static int resumed_in_a_stop(void)
 {
     pthread_t all[2];
     int ran = 0;
-    alarm(60);
     is_over = 0;
     for (int k = 0; k < 2; k++) pthread_create(&all[k], NULL, step_on, NULL);
     for (int k = 0; k < 20; k++) {
@@ -129,7 +130,6 @@ static int goes_on_beside_suspended_ones(void)
     pthread_t all[ASKING], blocked;
     time_t latest = time(NULL) + 20;
     int stuck = 0;
-    alarm(200);
     is_over = 0;
     for (int k = 0; k < ASKING; k++) pthread_create(&all[k], NULL, ask_for_large_ones, NULL);
     pthread_create(&blocked, NULL, block_again_and_again, NULL);
@@ -146,6 +146,67 @@ static int goes_on_beside_suspended_ones(void)
     return pthread_join(blocked, NULL) == 0 ? stuck : 2;
 }
 
+/* The same in the moment that it is about: of two that sleep and wait for the lock, the first one is woken, and is suspended before it has run. */
+static _Atomic pid_t asks, passes;
+static _Atomic enum { COMES, IS_BLOCKED, MAY_PASS, IS_AT_LOCK } stage;
+static void *ask_again_and_again(void *data)
+{
+    asks = gettid();
+    while (!is_over) GC_free(GC_malloc(100000));
+    return data;
+}
+static void *wait_to_pass(void *data)
+{
+    stage = IS_BLOCKED;
+    while (stage == IS_BLOCKED && !is_over) rest(0.0001);
+    stage = IS_AT_LOCK;
+    return data;
+}
+static void *pass_again_and_again(void *data)
+{
+    passes = gettid();
+    for (; !is_over; steps++) {
+        stage = COMES;
+        GC_do_blocking(wait_to_pass, NULL);
+    }
+    return data;
+}
+static void *until_both_sleep(void *data)
+{
+    while (!is_asleep(asks)) rest(0.0001);
+    stage = MAY_PASS;
+    while (stage != IS_AT_LOCK || !is_asleep(passes)) rest(0.0001);
+    return data;
+}
+/* It isn't, where it sleeps on, again and again. */
+static int is_woken(long seen)
+{
+    enum { LOOKS = 50 };
+    for (int slept = 0; steps == seen && slept < LOOKS; rest(0.001)) slept = is_asleep(passes) ? slept + 1 : 0;
+    return steps != seen;
+}
+static int wakes_another_one(void)
+{
+    enum { ROUNDS_OF_THESE = 50 };
+    pthread_t asking, passing;
+    int stuck = 0;
+    have_one_processor();
+    is_over = 0;
+    pthread_create(&asking, NULL, ask_again_and_again, NULL);
+    pthread_create(&passing, NULL, pass_again_and_again, NULL);
+    for (int round = 0; round < ROUNDS_OF_THESE && !stuck; round++) {
+        while (!asks || stage != IS_BLOCKED) rest(0.0001);
+        long seen = steps;
+        GC_call_with_alloc_lock(until_both_sleep, NULL);
+        GC_suspend_thread(asking);
+        stuck = !is_woken(seen);
+        GC_resume_thread(asking);
+    }
+    is_over = 1;
+    pthread_join(asking, NULL);
+    return pthread_join(passing, NULL) == 0 ? stuck : 2;
+}
+
 /* The process changes its user, which each thread does by a signal of the C library's, while one is suspended. */
 static void *wait_for_the_end(void *data)
 {
@@ -155,7 +216,6 @@ static void *wait_for_the_end(void *data)
 static int changes_its_user(void)
 {
     pthread_t thread;
-    alarm(60);
     is_over = 0;
     if (pthread_create(&thread, NULL, wait_for_the_end, NULL) != 0) return 1;
     rest(0.01);
@@ -168,13 +228,15 @@ static int changes_its_user(void)
 
 int main(void)
 {
-    alarm(300);
+    pid_t watcher = watch(300);
     GC_INIT();
     GC_allow_register_threads();
     suspended();
-    CHECK(status_of(suspends_itself) == 0);
-    CHECK(status_of(resumed_in_a_stop) == 0);
-    CHECK(status_of(goes_on_beside_suspended_ones) == 0);
-    CHECK(status_of(changes_its_user) == 0);
+    CHECK(ends_well(suspends_itself, 100));
+    CHECK(ends_well(resumed_in_a_stop, 60));
+    CHECK(ends_well(goes_on_beside_suspended_ones, 200));
+    CHECK(ends_well(wakes_another_one, 100));
+    CHECK(ends_well(changes_its_user, 60));
+    kill(watcher, SIGKILL);
     return check_ends();
 }

@@ -12,9 +12,9 @@
 #include <stdio.h>
 #include <stdlib.h>
 #include <string.h>
-#include <time.h>
 #include <unistd.h>
 #include "gc.h"
+#include "drawn.h"
 #include "lists.h"
 #include "waits.h"
 
@@ -34,13 +34,6 @@ static pthread_key_t key;
 static double until;
 static _Atomic int is_over;
 static _Atomic uint64_t operations;
-
-static double now(void)
-{
-    struct timespec time;
-    clock_gettime(CLOCK_MONOTONIC, &time);
-    return (double)time.tv_sec + (double)time.tv_nsec / 1e9;
-}
 
 static uint64_t next_random(uint64_t *state)
 {

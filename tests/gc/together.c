@@ -5,14 +5,17 @@
  * Each thread looks after its own: what a link, a finalizer or a typed word names is there as long as it has to be, and goes once. */
 #define _GNU_SOURCE
 #define GC_THREADS
+#include <fcntl.h>
 #include <pthread.h>
+#include <sched.h>
+#include <stdatomic.h>
 #include <stdint.h>
-#include <time.h>
 #include "gc.h"
 #include <gc/gc_disclaim.h>
 #include <gc/gc_mark.h>
 #include <gc/gc_typed.h>
 #include "check.h"
+#include "drawn.h"
 
 enum { PLACES = 40, HIGH = 1 << 30 };
 
@@ -26,21 +29,6 @@ static _Atomic uint64_t finalized, to_finalize, asked, events, operations;
 static GC_descr first_word;
 static int asked_kind;
 static double until;
-
-static double now(void)
-{
-    struct timespec time;
-    clock_gettime(CLOCK_MONOTONIC, &time);
-    return (double)time.tv_sec + (double)time.tv_nsec / 1e9;
-}
-
-static uint64_t draw(uint64_t *state)
-{
-    *state ^= *state << 13;
-    *state ^= *state >> 7;
-    *state ^= *state << 17;
-    return *state >> 8;
-}
 
 static void must(const char *what, int is_so)
 {
@@ -149,7 +137,7 @@ static void add_roots(struct place *place, uint64_t *state)
 {
     struct object *volatile *outside = malloc(4096);
     for (int k = 0; k < 512; k++) outside[k] = NULL;
-    outside[draw(state) % 512] = place->object;
+    outside[drawn(state) % 512] = place->object;
     GC_add_roots((void *)(uintptr_t)outside, (void *)(uintptr_t)(outside + 512));
     GC_malloc(5000);
     GC_remove_roots((void *)(uintptr_t)outside, (void *)(uintptr_t)(outside + 512));
@@ -186,7 +174,7 @@ static void *rests(void *data)
 
 static void do_one(struct place *place, uint64_t *state)
 {
-    uint64_t random = draw(state);
+    uint64_t random = drawn(state);
     look_at(place);
     switch (random % 24) {
     case 0: case 1: case 2: link_it(place); break;
@@ -212,12 +200,47 @@ static void *work(void *data)
     uint64_t state = (uint64_t)(uintptr_t)data * 0x9E3779B97F4A7C15ull + 1;
     struct place *places = GC_malloc(PLACES * sizeof *places);
     while (!is_over && wrong == 0) {
-        for (int k = 0; k < 100; k++) do_one(&places[draw(&state) % PLACES], &state);
+        for (int k = 0; k < 100; k++) do_one(&places[drawn(&state) % PLACES], &state);
         operations += 100;
         if (now() > until) is_over = 1;
     }
     for (int k = 0; k < PLACES; k++) forget(&places[k]);
     return NULL;
+}
+
+/* A call of the system writes into an object while another thread makes the heap larger. By relaxed words alone the two know of each other, so that
+ * nothing but the layer's lock orders them. */
+enum { GROWTHS = 40, GROWTH = 1 << 20 };
+static _Atomic int grown, written;
+
+static void *write_beside(void *object)
+{
+    int zeros = open("/dev/zero", O_RDONLY);
+    for (int round = 1; round <= GROWTHS; round++) {
+        while (atomic_load_explicit(&grown, memory_order_relaxed) < round) sched_yield();
+        must("an object is written to", read(zeros, object, sizeof(struct object)) == sizeof(struct object));
+        atomic_store_explicit(&written, round, memory_order_relaxed);
+    }
+    close(zeros);
+    return object;
+}
+
+static void grow_beside(void)
+{
+    pthread_t other;
+    void *volatile kept[GROWTHS];
+    size_t before = GC_get_heap_size();
+    GC_disable();
+    pthread_create(&other, NULL, write_beside, GC_malloc(sizeof(struct object)));
+    for (int round = 1; round <= GROWTHS; round++) {
+        kept[round - 1] = GC_malloc_atomic(GROWTH);
+        atomic_store_explicit(&grown, round, memory_order_relaxed);
+        while (atomic_load_explicit(&written, memory_order_relaxed) < round) sched_yield();
+    }
+    pthread_join(other, NULL);
+    CHECK(GC_get_heap_size() - before >= GROWTHS / 2 * (size_t)GROWTH);
+    for (int k = 0; k < GROWTHS; k++) GC_free(kept[k]);
+    GC_enable();
 }
 
 int main(int count, char **words)
@@ -230,6 +253,7 @@ int main(int count, char **words)
     if (getenv("INCREMENTAL")) GC_enable_incremental();
     GC_set_toggleref_func(goes);
     first_word = GC_make_descriptor(bits, 3);
+    grow_beside();
     asked_kind = (int)GC_new_kind(GC_new_free_list(), 0 | GC_DS_LENGTH, 1, 1);
     GC_register_disclaim_proc(asked_kind, lets_go, 0);
     until = now() + (count > 2 ? atof(words[2]) : 3);

@@ -3,11 +3,21 @@
 #define _GNU_SOURCE
 #define GC_THREADS
 #include <pthread.h>
+#include <linux/filter.h>
+#include <linux/seccomp.h>
 #include <sched.h>
+#include <signal.h>
+#include <stddef.h>
+#include <sys/prctl.h>
+#include <sys/resource.h>
+#include <sys/syscall.h>
 #include <time.h>
+#include <ucontext.h>
 #include "gc.h"
 #include "beside.h"
 #include "check.h"
+#include "states.h"
+#include "watch.h"
 
 /* Who collects without an end lets others come, who need the lock and are stopped. How many collections that takes tells it, whatever time it
  * takes; but where the machine has more work than processors they may wait for these: so it is tried again. */
@@ -30,7 +40,6 @@ static GC_word collections_beside_threads(void)
 static int collects_on(void)
 {
     enum { TRIES = 10 };
-    alarm(100);
     for (int k = 0; k < TRIES; k++)
         if (collections_beside_threads() <= 10 * THREADS) return 0;
     return 1;
@@ -63,12 +72,7 @@ static int collections_go_on_in_rests(void)
 static int goes_on_beside_requests(void)
 {
     enum { TRIES = 4 }; /* what else the machine does may hold one off */
-    cpu_set_t one;
-    CPU_ZERO(&one);
-    CPU_SET(sched_getcpu(), &one);
-    (void)!sched_setaffinity(0, sizeof one, &one);
-    (void)!sched_setscheduler(0, SCHED_BATCH, &(struct sched_param){ 0 });
-    alarm(100);
+    have_one_processor();
     for (int k = 0; k < TRIES; k++)
         if (collections_go_on_in_rests() == 0) return 0;
     return 1;
@@ -101,19 +105,99 @@ static int turns_beside_requests(void)
 static int lets_others_have_the_lock(void)
 {
     enum { TRIES = 3, MOST = 5 * TIMES };
-    alarm(60);
     for (int k = 0; k < TRIES; k++)
         if (turns_beside_requests() <= MOST) return 0;
     return 1;
 }
 
+/* Who was woken in vain some times is handed the lock: who gives it away sleeps until another has it, which the kernel counts, whatever time that
+ * takes. Else nobody sleeps who gives it away, since there are no collections. */
+static _Atomic pid_t asks;
+static void *ask_again_and_again(void *data)
+{
+    asks = gettid();
+    while (!is_over) GC_call_with_alloc_lock(ask_once, data);
+    return data;
+}
+static long sleeps(void)
+{
+    struct rusage used;
+    return getrusage(RUSAGE_THREAD, &used) == 0 ? used.ru_nvcsw : 0;
+}
+static void *until_it_sleeps(void *slept)
+{
+    while (!is_asleep(asks)) rest(0.0001);
+    *(long *)slept = sleeps();
+    return NULL;
+}
+static int hands_the_lock_over(void)
+{
+    enum { ENOUGH = 5, MOST = 500 };
+    pthread_t asking;
+    long slept = 0;
+    int handed = 0;
+    have_one_processor();
+    GC_disable();
+    is_over = 0;
+    pthread_create(&asking, NULL, ask_again_and_again, NULL);
+    while (!asks) rest(0.0001);
+    for (int k = 0; k < MOST && handed < ENOUGH; k++) {
+        GC_call_with_alloc_lock(until_it_sleeps, &slept);
+        handed += sleeps() > slept;
+    }
+    is_over = 1;
+    return pthread_join(asking, NULL) == 0 && handed == ENOUGH ? 0 : 1;
+}
+
+/* Where nobody else runs but the collector's own thread, who collects again and again rests for nobody. The kernel tells of each rest, where it
+ * can. */
+static volatile int rests;
+static void on_rest(int number, siginfo_t *info, void *context)
+{
+    (void)number;
+    (void)info;
+    rests++;
+    ((ucontext_t *)context)->uc_mcontext.gregs[REG_RAX] = 0;
+}
+static int tells_of_rests(void)
+{
+    struct sock_filter steps[] = {
+        BPF_STMT(BPF_LD | BPF_W | BPF_ABS, offsetof(struct seccomp_data, nr)),
+        BPF_JUMP(BPF_JMP | BPF_JEQ | BPF_K, SYS_nanosleep, 0, 1),
+        BPF_STMT(BPF_RET | BPF_K, SECCOMP_RET_TRAP),
+        BPF_STMT(BPF_RET | BPF_K, SECCOMP_RET_ALLOW),
+    };
+    struct sock_fprog filter = { .len = sizeof steps / sizeof *steps, .filter = steps };
+    struct sigaction action = { .sa_sigaction = on_rest, .sa_flags = SA_SIGINFO };
+    if (sigaction(SIGSYS, &action, NULL) != 0 || prctl(PR_SET_NO_NEW_PRIVS, 1, 0, 0, 0) != 0) return 0;
+    return prctl(PR_SET_SECCOMP, SECCOMP_MODE_FILTER, &filter) == 0;
+}
+static int has_collector(void)
+{
+    struct said said;
+    return strtol(said_of(getpid(), "status", "\nThreads:", &said), NULL, 10) > 1;
+}
+static int rests_for_nobody(void)
+{
+    enum { COLLECTIONS = 20 };
+    GC_enable_collector_thread();
+    while (!has_collector())
+        for (int k = 0; k < 1000; k++) GC_malloc(100);
+    if (!tells_of_rests()) return 0;
+    for (int k = 0; k < COLLECTIONS; k++) GC_gcollect();
+    return rests;
+}
+
 int main(void)
 {
-    alarm(300);
+    pid_t watcher = watch(300);
     GC_INIT();
     GC_allow_register_threads();
-    CHECK(status_of(collects_on) == 0);
-    CHECK(status_of(goes_on_beside_requests) == 0);
-    CHECK(status_of(lets_others_have_the_lock) == 0);
+    CHECK(ends_well(collects_on, 100));
+    CHECK(ends_well(goes_on_beside_requests, 100));
+    CHECK(ends_well(lets_others_have_the_lock, 60));
+    CHECK(ends_well(hands_the_lock_over, 60));
+    CHECK(ends_well(rests_for_nobody, 100));
+    kill(watcher, SIGKILL);
     return check_ends();
 }

@@ -220,6 +220,47 @@ static NOINLINE void moved(void)
     holders = NULL;
 }
 
+/* One that points to itself is finalized where that is to be ignored, and what else it points to is there. */
+struct ring { struct ring *self; uint64_t other, *strong; };
+static int finalized, wrong;
+static void look_at(void *object, void *data)
+{
+    const struct ring *one = object;
+    finalized++;
+    wrong += one->strong[0] != 1000 + (uintptr_t)data;
+}
+static NOINLINE void make_rings(void)
+{
+    GC_word bits[1] = { 5 };
+    GC_descr type = GC_make_descriptor(bits, 3);
+    for (uintptr_t k = 0; k < MANY; k++) {
+        struct ring *one = GC_malloc_explicitly_typed(sizeof *one, type);
+        one->self = one;
+        one->strong = named((int)k);
+        GC_register_finalizer_ignore_self(one, look_at, (void *)k, NULL, NULL);
+    }
+}
+static NOINLINE void rings(void)
+{
+    make_rings();
+    collect();
+    CHECK(finalized >= MANY - 3 && finalized <= MANY && wrong == 0);
+    forget_all();
+}
+
+/* One that becomes shorter where it is, and longer again, has nothing of what it had there. */
+static void grown(void)
+{
+    enum { LONGER = 12, SHORTER = 9 };
+    GC_word bits[1] = { 0x555 };
+    uint64_t *object = GC_malloc_explicitly_typed(LONGER * sizeof *object, GC_make_descriptor(bits, LONGER)), *was = object;
+    for (int k = 0; k < LONGER; k++) object[k] = 1;
+    object = GC_realloc(object, SHORTER * sizeof *object);
+    object = GC_realloc(object, LONGER * sizeof *object);
+    CHECK(object == was);
+    for (int k = 0; k < LONGER; k++) CHECK(object[k] == (k < SHORTER));
+}
+
 int main(void)
 {
     GC_INIT();
@@ -232,5 +273,7 @@ int main(void)
     inner_chains(6000);
     some_go();
     moved();
+    rings();
+    grown();
     return check_ends();
 }

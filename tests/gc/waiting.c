@@ -11,6 +11,7 @@
 #include <time.h>
 #include "gc.h"
 #include "check.h"
+#include "watch.h"
 
 static atomic_int are_ready;
 static void rest(long milliseconds)
@@ -103,10 +104,7 @@ static int is_cancelled(void)
         while (!are_ready) rest(1);
         rest(10);
         pthread_cancel(thread);
-        struct timespec until;
-        clock_gettime(CLOCK_REALTIME, &until);
-        until.tv_sec += 20;
-        if (pthread_timedjoin_np(thread, &answer, &until) != 0 || answer != PTHREAD_CANCELED) return k + 1;
+        if (pthread_join(thread, &answer) != 0 || answer != PTHREAD_CANCELED) return k + 1;
     }
     return 0;
 }
@@ -189,15 +187,16 @@ static int leaves_no_stacks(void)
 
 int main(void)
 {
-    alarm(300);
+    pid_t watcher = watch(300);
     GC_INIT();
     GC_allow_register_threads();
     if (getenv("INCREMENTAL")) GC_enable_incremental();
     CHECK(status_of(wait_for_every_signal) == 0);
     CHECK(status_of(no_time_is_no_signal) == 0);
-    CHECK(status_of(is_cancelled) == 0);
+    CHECK(ends_well(is_cancelled, 60));
     CHECK(status_of(old_names_leave_two_out) == 0);
     CHECK(status_of(leaves_no_stacks) == 0);
     CHECK(status_of(is_handled_first) == 0);
+    kill(watcher, SIGKILL);
     return check_ends();
 }

@@ -1,15 +1,20 @@
-/* Functions of the C library that hand places on closed pages to the kernel where one wouldn't look for it: thrd_sleep, answers of a name server,
- * which is a process of this test, and the list of a machine's interfaces. */
+/* Functions of the C library that hand places on closed pages to the kernel where one wouldn't look for it: thrd_sleep, answers of a name server
+ * and of who keeps users, which are processes of this test, and the list of a machine's interfaces. */
 #define _GNU_SOURCE
 #include <arpa/inet.h>
 #include <arpa/nameser.h>
 #include <net/if.h>
 #include <netinet/in.h>
+#include <pwd.h>
 #include <resolv.h>
+#include <sched.h>
 #include <signal.h>
 #include <sys/ioctl.h>
+#include <sys/mount.h>
 #include <sys/socket.h>
+#include <sys/stat.h>
 #include <sys/time.h>
+#include <sys/un.h>
 #include <threads.h>
 #include <time.h>
 #include "check.h"
@@ -74,6 +79,49 @@ static int asks(void)
     return asked > 0 && came == asked && memcmp(answer, question, 2) == 0 ? 0 : 3;
 }
 
+/* Who keeps users (nscd) is asked by a socket, where this test may put one for itself alone: else nothing is tried. It answers each question for a
+ * user. */
+static const struct sockaddr_un kept_at = { AF_UNIX, "/var/run/nscd/socket" };
+static int keeper(void)
+{
+    int file = socket(AF_UNIX, SOCK_STREAM, 0);
+    if (unshare(CLONE_NEWNS) != 0 && unshare(CLONE_NEWUSER | CLONE_NEWNS) != 0) return -1;
+    if (mount(NULL, "/", NULL, MS_REC | MS_PRIVATE, NULL) != 0 || mount("none", "/var/run", "tmpfs", 0, NULL) != 0) return -1;
+    if (mkdir("/var/run/nscd", 0755) != 0 || bind(file, (const struct sockaddr *)&kept_at, sizeof kept_at) != 0) return -1;
+    return listen(file, 9) == 0 ? file : -1;
+}
+static void answer_of_a_user(int client)
+{
+    enum { BY_NAME, BY_NUMBER };
+    static const char text[] = "someone\0x\0about\0/home\0/bin/true";
+    struct { int32_t version, type, length; } question;
+    struct { int32_t version, is_found, name, password, user, group, about, folder, shell; } head = { 2, 1, 8, 2, 4242, 4243, 6, 6, 10 };
+    char key[100];
+    if (read(client, &question, sizeof question) != sizeof question || question.length > (int)sizeof key) return;
+    if (read(client, key, (size_t)question.length) != question.length || question.type > BY_NUMBER) return;
+    if (send(client, &head, sizeof head, MSG_MORE) == sizeof head) (void)!write(client, text, sizeof text);
+}
+static void answer_of_users(int file)
+{
+    for (;;) {
+        int client = accept(file, NULL, NULL);
+        answer_of_a_user(client);
+        close(client);
+    }
+}
+static int finds_users(void)
+{
+    struct passwd one, *found = NULL, *again = NULL;
+    int file = keeper();
+    if (file < 0) return 0;
+    pid_t child = fork();
+    if (child == 0) answer_of_users(file);
+    int by_name = getpwnam_r("someone", &one, place(), 1000, &found), by_number = getpwuid_r(4242, &one, place(), 1000, &again);
+    kill(child, SIGKILL);
+    if (by_name != 0 || by_number != 0 || !found || !again) return 1;
+    return one.pw_gid == 4243 && strcmp(one.pw_dir, "/home") == 0 ? 0 : 2;
+}
+
 /* Its place stands in an object, or outside of all. */
 static int lists_interfaces(void)
 {
@@ -99,6 +147,7 @@ int main(void)
     CHECK(ends_well(tells_times, 60));
     CHECK(ends_well(asks, 60));
     CHECK(ends_well(lists_interfaces, 60));
+    CHECK(ends_well(finds_users, 60));
     end();
     return check_ends();
 }

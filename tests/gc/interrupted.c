@@ -1,0 +1,261 @@
+/* A signal comes between any two instructions of a call by which the kernel writes into an ordinary object, or of a request that opens pages. At
+ * each of these moments, in a child of its own, its handler makes steps of a cycle, or jumps away: what is written there stays, and what was
+ * jumped out of holds nobody up. */
+#define _GNU_SOURCE
+#include <pthread.h>
+#include <setjmp.h>
+#include <signal.h>
+#include <stdint.h>
+#include <sys/mman.h>
+#include <sys/syscall.h>
+#include <ucontext.h>
+#include "gc.h"
+#include "check.h"
+#include "traps.h"
+
+enum { COUNT = 64, PLACES = 3, IS_STOPPED = 70, IS_SHORT, IS_LOST, HAS_NO_THREAD };
+
+/* Their places stand in a file alone, until they are read. */
+static int file;
+static GC_word hidden[COUNT];
+static void **place[PLACES], *made[COUNT];
+
+static void (*handle)(void);
+static pid_t self;
+static unsigned long moments, were_stopped, failed_at;
+static int last_status;
+
+static void on_signal(int number)
+{
+    (void)number;
+    handle();
+}
+static void on_stop(const char *sentence)
+{
+    (void)sentence;
+    _exit(IS_STOPPED);
+}
+
+/* By the kernel itself: the C library's call would be one of those that are walked through. */
+static int status_of_child(pid_t child)
+{
+    int status = 0;
+    long number = SYS_wait4;
+    register long in_fourth __asm__("r10") = 0;
+    __asm__ volatile("syscall" : "+a"(number) : "D"((long)child), "S"(&status), "d"(0L), "r"(in_fourth) : "rcx", "r11", "memory");
+    return number == child ? status : -1;
+}
+
+/* In the middle of a call of the heap each handler is stopped: behind so many moments of it only some are tried. */
+static unsigned long in_a_row, passed_by;
+static int is_passed_by(void)
+{
+    enum { ENOUGH = 50, EACH = 16 };
+    return in_a_row >= ENOUGH && ++passed_by % EACH != 0;
+}
+
+static void on_trap(int number, siginfo_t *info, void *context)
+{
+    int status;
+    (void)number;
+    (void)info;
+    if (failed_at != 0 || is_passed_by()) return;
+    moments++;
+    fflush(stdout);
+    pid_t child = fork();
+    if (child == 0) {
+        ((ucontext_t *)context)->uc_mcontext.gregs[REG_EFL] &= ~(greg_t)TRAP_FLAG;
+        alarm(60);
+        raise(SIGUSR1);
+        return;
+    }
+    status = status_of_child(child);
+    int is_stopped = WIFEXITED(status) && WEXITSTATUS(status) == IS_STOPPED;
+    were_stopped += is_stopped;
+    in_a_row = is_stopped ? in_a_row + 1 : 0;
+    if (status == 0 || is_stopped) return;
+    failed_at = moments;
+    last_status = status;
+}
+
+__attribute__((noinline)) static void wipe(void)
+{
+    volatile char below[1 << 14];
+    for (size_t k = 0; k < sizeof below; k++) below[k] = 0;
+}
+
+__attribute__((noinline)) static void make(void)
+{
+    for (int k = 0; k < COUNT; k++) made[k] = GC_malloc_atomic(90);
+}
+__attribute__((noinline)) static void hide(void)
+{
+    if (pwrite(file, made, sizeof made, 0) != sizeof made) abort();
+    for (int k = 0; k < COUNT; k++) hidden[k] = GC_HIDE_POINTER(made[k]);
+    memset(made, 0, sizeof made);
+}
+
+/* Objects, each on a page that has room for another one, and is closed by then; and a cycle that has read the roots, and has little to mark. */
+__attribute__((noinline)) static void make_places(void)
+{
+    for (int k = 0; k < 2 * PLACES; k++) place[k / 2] = GC_malloc(2000);
+}
+static void begin(int is_hidden)
+{
+    make_places();
+    make();
+    wipe();
+    GC_gcollect();
+    if (is_hidden) hide();
+    wipe();
+    GC_start_incremental_collection();
+}
+
+static void end(void)
+{
+    while (GC_collect_a_little()) continue;
+}
+
+static int count_kept(void)
+{
+    int kept = 0;
+    wipe();
+    end();
+    for (int k = 0; k < COUNT; k++) kept += GC_base(GC_REVEAL_POINTER(hidden[k])) == GC_REVEAL_POINTER(hidden[k]);
+    return kept;
+}
+
+static int is_read(void)
+{
+    return pread(file, place[1], COUNT * sizeof(void *), 0) == COUNT * sizeof(void *);
+}
+
+/* One step marks all, and reads the pages that were told. The next would end the cycle. */
+static void make_step(void) { GC_collect_a_little(); }
+
+static void steps_come(void)
+{
+    begin(1);
+    handle = make_step;
+    trap();
+    int answer = is_read();
+    trap_no_more();
+    if (getpid() == self) return;
+    if (!answer) _exit(IS_SHORT);
+    _exit(count_kept() == COUNT ? 0 : IS_LOST);
+}
+
+/* Others go on behind it, and the kernel writes there again. */
+static sigjmp_buf out;
+static int has_jumped;
+static void jump(void)
+{
+    has_jumped = 1;
+    siglongjmp(out, 1);
+}
+static void *ask(void *data)
+{
+    for (int k = 0; k < 100; k++) GC_malloc(100);
+    GC_gcollect();
+    return data;
+}
+static void go_on(void)
+{
+    pthread_t thread;
+    GC_start_incremental_collection();
+    if (!is_read()) _exit(IS_SHORT);
+    if (count_kept() != COUNT) _exit(IS_LOST);
+    if (pthread_create(&thread, NULL, ask, NULL) != 0 || pthread_join(thread, NULL) != 0) _exit(HAS_NO_THREAD);
+    _exit(0);
+}
+static void jumps_come(void)
+{
+    begin(1);
+    handle = jump;
+    if (sigsetjmp(out, 1) == 0) {
+        trap();
+        (void)is_read();
+        trap_no_more();
+    }
+    if (getpid() == self) return;
+    if (!has_jumped) _exit(IS_SHORT);
+    end();
+    make();
+    hide();
+    wipe();
+    go_on();
+}
+
+/* Behind a cycle a request opens pages that are closed still. A cycle begins meanwhile, and marks all; the request itself may end it. */
+static void *volatile asked_for;
+static GC_word ended;
+static void begin_another(void)
+{
+    GC_start_incremental_collection();
+    make_step();
+    GC_disable();
+    ended = GC_get_gc_no();
+}
+static void cycles_begin(void)
+{
+    begin(0);
+    end();
+    hide();
+    wipe();
+    handle = begin_another;
+    trap();
+    asked_for = GC_malloc(3000);
+    trap_no_more();
+    if (getpid() == self) return;
+    if (ended != GC_get_gc_no()) _exit(0);
+    GC_enable();
+    for (int k = 0; k < COUNT; k++) place[1][k] = GC_REVEAL_POINTER(hidden[k]);
+    _exit(count_kept() == COUNT ? 0 : IS_LOST);
+}
+
+/* While a cycle marks, a request writes to a closed page. The handler does too, and ends the cycle. */
+static void write_and_end(void)
+{
+    GC_enable();
+    for (int k = 0; k < COUNT; k++) place[k % PLACES][k] = GC_REVEAL_POINTER(hidden[k]);
+    if (count_kept() != COUNT) _exit(IS_LOST);
+}
+static void cycles_end(void)
+{
+    begin(1);
+    make_step();
+    handle = write_and_end;
+    GC_disable();
+    trap();
+    asked_for = GC_malloc(2000);
+    trap_no_more();
+    if (getpid() != self) _exit(0);
+    GC_enable();
+}
+
+/* Each moment of it. */
+static int walk(void (*way)(void), int may_stop)
+{
+    moments = were_stopped = failed_at = 0;
+    way();
+    end();
+    if (failed_at != 0) printf("  failed at moment %lu, by status %x\n", failed_at, (unsigned)last_status);
+    return moments > 0 && failed_at == 0 && (may_stop || were_stopped == 0);
+}
+
+int main(void)
+{
+    struct sigaction traps = { .sa_sigaction = on_trap, .sa_flags = SA_SIGINFO }, signals = { .sa_handler = on_signal };
+    self = getpid();
+    file = memfd_create("places", 0);
+    GC_INIT();
+    GC_set_abort_func(on_stop);
+    GC_enable_incremental();
+    sigaction(SIGTRAP, &traps, NULL);
+    sigaction(SIGUSR1, &signals, NULL);
+    CHECK(walk(steps_come, 0));
+    if (failed == 0) CHECK(walk(jumps_come, 0));
+    CHECK(walk(cycles_begin, 1));
+    CHECK(walk(cycles_end, 1));
+    return check_ends();
+}
