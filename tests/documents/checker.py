@@ -42,6 +42,9 @@ class Checker:
         status, reply = beside(command)
         print(f"documents: {where}: {command.split('  #')[0].strip()}", flush=True)
         ended, out, said = self.call(command)
+        for line in out.splitlines():
+            if re.match(r"left out: |.*\d+ passed, \d+ failed$", line):
+                print(f"documents: {line}", flush=True)
         fault = ""
         if ended != status:
             fault = f"status {ended} in the place of {status}: {said[-1500:]}{out[-6000:]}"

@@ -1,6 +1,7 @@
 //! How a history begins, and how it gets a name.
-ghost use Rattle.std.specs.Prelude.{◌≡◌, [], IfOk};
+ghost use Rattle.std.specs.Prelude.{◌≡◌, [], IfOk, IfErr};
 ghost use Rattle.history.specs.declared.object.TheConstants.{COLLECTOR as collector};
+ghost use Rattle.words.specs.declared.refusal.OpenError.TheVariants.{Memory};
 
 use crate::lending::Lends;
 use crate::log::Log;
@@ -10,8 +11,9 @@ use crate::pass::Pass;
 use crate::rule::{Naming, Rule};
 use crate::view::View;
 use atomic_table::{Seat, Table};
-use std::alloc::{AllocError, Global};
+use std::alloc::Global;
 use std::marker::{Model, PhantomData};
+use words::OpenError;
 
 /// The parts of a new history, which have no name yet. Contracts see the object and the table.
 #[derive(Drop)]
@@ -34,14 +36,15 @@ impl<O: Object> Model for Opened<O> {
         o.keeper.me.0 o.pass.me.0 o.object };
 }
 
-/// An empty history of an object. Its one error is that there is no memory for the word: no later call on the history takes any.
+/// An empty history of an object. The one error is [`OpenError::Memory`]: no later call on the history takes any.
 pub fn open<O: Object + Drop>(
     alloc: Global,
     origin: u64,
     object: O,
-) -> Result<Opened<O>, AllocError>
+) -> Result<Opened<O>, OpenError>
     requires { (s : O.State) × O.opens origin s × O.stands object s }
-    ensures { IfOk result (λ opened. (opened.object ≡ object) × (opened.origin ≡ origin)) }
+    ensures opened { IfOk result (λ opened. (opened.object ≡ object) × (opened.origin ≡ origin)) }
+    ensures err { IfErr result (λ error. error ≡ Memory) }
 {
     let (table, mut keeper) = Table::of_words(alloc, &[0], &origin)?;
     // The first seat has both rights. The collector's pass leaves it here, and the keeper's stays.

@@ -16,8 +16,5 @@ pub fn open(alloc: Global, pages: u32) -> Result<Opened<Core>, OpenError>
     ensures { IsOpened pages result (λ opened. opened.origin ≡ pages) }
 {
     let core = Core::new(alloc, pages)?;
-    let Ok(opened) = history::open(alloc, u64::from(pages), core) else {
-        return Err(OpenError::Memory);
-    };
-    Ok(opened)
+    history::open(alloc, u64::from(pages), core)
 }

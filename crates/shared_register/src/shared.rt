@@ -11,9 +11,10 @@ ghost use Rattle.shared_register.specs.declared.register.Register.{Register as R
 
 use crate::register::{Call, Register, Reply};
 use history::{COLLECTOR, Log, Logged, Naming, Opened, Pass, Quiet};
-use std::alloc::{AllocError, Global};
+use std::alloc::Global;
 use std::marker::Model;
 use std::sync::{Mutex, Wait};
+use words::OpenError;
 
 /// The history's word, and the register under its lock.
 #[derive(Drop)]
@@ -78,7 +79,7 @@ impl Quiet<Register> for ReadValue {
 }
 
 /// A register with this number, which has no name yet.
-pub fn open(alloc: Global, value: u64) -> Result<Opened<Register>, AllocError>
+pub fn open(alloc: Global, value: u64) -> Result<Opened<Register>, OpenError>
     ensures { IfOk result (λ opened. opened.origin ≡ value) }
 {
     history::open(alloc, value, Register::new(value))
