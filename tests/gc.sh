@@ -1,7 +1,7 @@
 #!/usr/bin/env bash
 # tests/gc.sh [--quick]
-# Tests of libmpgc, C programs' gc.h over the proved library for C. It builds what it needs, needs cc, and takes some ten minutes;
-# --quick leaves out the faults that are planted in the layer and what runs under sanitizers, and takes a few.
+# Tests of libmpgc, C programs' gc.h over the proved library for C. It builds what it needs, needs cc, and takes half an hour;
+# --quick leaves out the faults that are planted in the layer and what runs under sanitizers, and takes some minutes.
 # What needs a package that isn't here is said and skipped. It ends with `N passed, M failed`.
 # MPHEAP_ARCHIVE and MPHEAP_INCLUDE are those of gc/build.
 set -uo pipefail
