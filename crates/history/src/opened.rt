@@ -37,11 +37,7 @@ impl<O: Object> Model for Opened<O> {
 }
 
 /// An empty history of an object. The one error is [`OpenError::Memory`]: no later call on the history takes any.
-pub fn open<O: Object + Drop>(
-    alloc: Global,
-    origin: u64,
-    object: O,
-) -> Result<Opened<O>, OpenError>
+pub fn open<O: Object + Drop>(alloc: Global, origin: u64, object: O) -> Result<Opened<O>, OpenError>
     requires { (s : O.State) × O.opens origin s × O.stands object s }
     ensures opened { IfOk result (λ opened. (opened.object ≡ object) × (opened.origin ≡ origin)) }
     ensures err { IfErr result (λ error. error ≡ Memory) }
