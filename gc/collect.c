@@ -56,6 +56,7 @@ static bool collect_fully(void *unused)
     double start = mpgc_now();
     mpgc_block_signals(&old);
     mpgc_stop_to_collect();
+    mpgc_tell_noted();
     mpgc_drop_cycle();
     mpgc_open_all();
     collect();

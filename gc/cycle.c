@@ -130,8 +130,9 @@ static uint64_t do_piece(enum piece piece, uint64_t words)
 }
 
 // The next step of the cycle, of about so many words where it marks. At rest one begins. From its first piece on that needs a stop no other
-// thread runs. Before one that needs none is told what a handler opened in the middle of another telling. Where it isn't known on which stack
-// the first thread is, the collector's thread leaves all to the requests, which know.
+// thread runs. Before each is told what was opened under a call, or by a handler in the middle of a telling: a handler that came behind that call
+// may have written there, and makes this step. Where it isn't known on which stack the first thread is, the collector's thread leaves all to the
+// requests, which know.
 static bool go_on(void *left)
 {
     uint64_t words = *(uint64_t *)left;
@@ -148,7 +149,7 @@ static bool go_on(void *left)
             mpgc_leave_beside();
             break;
         }
-        if (!has_stopped) mpgc_tell_noted();
+        mpgc_tell_noted();
         piece = mpgc_piece_after(piece, do_piece(piece, words), &words);
     }
     if (has_stopped) mpgc_start_after_collecting();

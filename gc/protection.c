@@ -21,7 +21,7 @@
 //     closed (`mpgc_is_one_to_close`): then that page is closed, holds no ordinary object, or is pinned.
 //   - A page that comes to hold ordinary objects while it is open is told then (pages.c).
 //   - A page that the core itself writes to under a call faults too. It is noted, and told when the call has returned, before the
-//     program writes there.
+//     program writes there; or a handler of the program writes there before, and makes a step: then it is told before that one (cycle.c, collect.c).
 //   - The kernel makes no fault. Pages to which it writes for a thread are pinned meanwhile (pins.c): told and open, not closed, told when a
 //     cycle has begun as all open ones are, and anew behind retraces that may have cleaned them (`mpgc_tell_pinned`).
 //   - No handler of the program comes between a page's telling and its opening, nor where pages that were noted are told: it might make a step,
@@ -46,7 +46,7 @@
 //   1. A step has the lock from before its first call until behind its last. Who tells, opens, closes or cleans a page, allocates, frees or
 //      sweeps has it too: so none of these falls into a step.
 //   2. The rule above holds whenever nobody has the lock. What was opened under a call, or in the middle of a telling, is told before the
-//      lock is given back, or at the latest before the step (mpgc_tell_noted, cycle.c). So when a step begins each open page of ordinary
+//      lock is given back, or at the latest before the step (mpgc_tell_noted). So when a step begins each open page of ordinary
 //      objects is dirty: it was told, and only closed pages were cleaned since; pinned ones may be cleaned in a stop, and are told anew there.
 //   3. While it runs, a write to a closed page faults before anything is written, and its handler waits for the lock, behind this step and no
 //      other (mpgc_give_way, lock.c). A write to an open page is done at once, and lies on a dirty page. That is the first thing owed.

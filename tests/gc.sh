@@ -151,6 +151,7 @@ MPHEAP_ARCHIVE=$room/checking_core.a build "$room/checking"
 # What waits for most of its time.
 beside counts stopping "$room/stopping"
 beside counts "stopping, over that core" env "LD_LIBRARY_PATH=$room/checking" "$room/stopping"
+queued counts "interrupted, over that core" env "LD_LIBRARY_PATH=$room/checking" "$room/interrupted"
 for setting in FULL GC_ENABLE_INCREMENTAL GC_COLLECTOR_THREAD; do
     beside counts "locks, $setting" env $setting=1 "$room/locks"
 done
