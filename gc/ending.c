@@ -5,8 +5,9 @@
 //
 //   the roots are as the program has them          at mpheap_finish: they were read just before, and all that they lead to is marked by
 //                                                  mpheap_roots and mpheap_mark; what is marked is kept (clause EndsCycle.forgets). The
-//                                                  functions of the program that run here may mark more, which is always right, and
-//                                                  must write no word of the heap, as with bdwgc
+//                                                  functions of the program that run here may mark more, which is always right. A word
+//                                                  that they write counts as written behind mpheap_finish: so what it names has to be
+//                                                  marked, as with bdwgc. (Guile 2.2 writes where its mark stack lies, no object.)
 //   whether an object goes                         mpheap_is_marked, clause HasMark; no page is dirty and no word left to read then
 // Counted under roots, links, finalizers and kinds.
 #include "layer.h"
