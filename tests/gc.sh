@@ -141,12 +141,9 @@ build_test() { "${c[@]}" "$top/tests/gc/$1.c" "-L$room" -lmpgc "-Wl,-rpath,$room
 each "is built" build_test "${tests[@]}"
 
 # The layer over a core that checks what is owed.
-for file in tests/gc/checking_core c/lent; do
-    "${c[@]}" -fPIC "-I$include" -c "$top/$file.c" -o "$room/$(basename $file).o" 2>"$room/said"
-    is "$file, of a core that checks what is owed, is built" "" "$(cat "$room/said")"
-done
-ar rcs "$room/checking_core.a" "$room/checking_core.o" "$room/lent.o"
-MPHEAP_ARCHIVE=$room/checking_core.a build "$room/checking"
+MPHEAP_INCLUDE=$include "$top/tests/gc/checking_archive.sh" "$room/core" >"$room/said" 2>&1
+is "a core that checks what is owed is built" "" "$(cat "$room/said")"
+MPHEAP_ARCHIVE=$room/core/libmpheap.a build "$room/checking"
 
 # What waits for most of its time.
 beside counts stopping "$room/stopping"
