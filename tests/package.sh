@@ -48,8 +48,8 @@ sources_are_told() {
     local papers=$1/share/doc/mpheap
     is "its version" "$("$top/mpheap" --version)" "$(sed -n '2,4s/^  //p' "$papers/SOURCES")"
     is "the rules of proof" "$(rt version)" "$(sed -n 's/^  mpheap: //p' "$papers/SOURCES")"
-    is "wrong bodies" "$(find "$top"/crates/{words,block_map,draw}/must-fail -name '*.edit' -printf '%f\n' | sort)" \
-        "$(sed -nE 's,^  crates/(words|block_map|draw)/must-fail/,,p' "$papers/SOURCES" | sort)"
+    is "wrong bodies" "$(find "$top"/crates/{words,block_map,programs}/must-fail -name '*.edit' -printf '%f\n' | sort)" \
+        "$(sed -nE 's,^  crates/(words|block_map|programs)/must-fail/,,p' "$papers/SOURCES" | sort)"
     is "those that a full test told of" "$(sed -n 's,.* crates/words/must-fail/,,p' "$top/out/refused" 2>/dev/null | sort)" \
         "$(sed -n '/^Wrong bodies of which no full test/q; s,^  crates/words/must-fail/,,p' "$papers/SOURCES" | sort)"
     (cd "$1" && sed -n 's/^  \([0-9a-f]\{64\}  \.\/\)/\1/p' "$papers/SOURCES" | sha256sum --quiet -c) >"$room/said" 2>&1
