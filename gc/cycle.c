@@ -63,19 +63,21 @@ static uint64_t mark(uint64_t words)
     return read;
 }
 
-// Closed pages are read again by their numbers. Answers how many of them were dirty.
-static uint64_t reread_pages(struct pages pages)
+// Closed pages are read again by their numbers, and what each leads to is marked before the next one, as far as so many words go: else most of that
+// would find no room on the core's mark stack, and make pages dirty. Answers how many of them were dirty.
+static uint64_t reread_pages(struct pages pages, uint64_t words)
 {
     uint64_t read = 0, count;
     for (size_t page = pages.from; page < pages.to; page++) {
         GRANTED(mpheap_retrace_page_beside(&mpgc.heap, (uint32_t)page, &asked, &count));
         read += count;
+        if (words > 0) words -= mark(words);
     }
     return read;
 }
 
 // Whether there was a dirty page.
-static uint64_t reread_lowest(void)
+static uint64_t reread_one(void)
 {
     uint64_t count;
     if (mpgc_world_is_stopped())
@@ -86,18 +88,29 @@ static uint64_t reread_lowest(void)
 }
 
 // Counted under the rest.
+// As many of the lowest dirty ones, in the same way, until so many words are marked.
+static uint64_t reread_lowest(size_t most, uint64_t words)
+{
+    uint64_t read = 0;
+    while (read < most && words > 0 && reread_one() > 0) {
+        read++;
+        words -= mark(words);
+    }
+    return read;
+}
+
 // The lowest open pages are closed, no more than the batch still has, and these read again; or some dirty ones, where none is to be closed: all
 // before the lock is given back. Answers how many were read.
 static uint64_t reread(void)
 {
-    enum { STOPPED = 256, BESIDE = 8 };
+    enum { STOPPED = 256, BESIDE = 8, WORDS = 8192 };
     size_t most = mpgc_world_is_stopped() ? STOPPED : BESIDE, left = mpgc_left_in_batch();
-    uint64_t read = 0;
+    uint64_t read;
     if (left < most) most = left;
     if (mpgc_is_one_to_close()) {
-        read = reread_pages(mpgc_close_lowest(most));
+        read = reread_pages(mpgc_close_lowest(most), WORDS);
     } else {
-        for (; most > 0; most--) read += reread_lowest();
+        read = reread_lowest(most, WORDS);
         mpgc_tell_pinned();
     }
     mpgc_figures.retraces += read;

@@ -50,8 +50,8 @@
 //      objects is dirty: it was told, and only closed pages were cleaned since; pinned ones may be cleaned in a stop, and are told anew there.
 //   3. While it runs, a write to a closed page faults before anything is written, and its handler waits for the lock, behind this step and no
 //      other (mpgc_give_way, lock.c). A write to an open page is done at once, and lies on a dirty page. That is the first thing owed.
-//   4. To read pages again, a run of the lowest open ones is closed, none of them pinned, and just these are read before the lock is given
-//      back. Where there is none, the lowest dirty ones are read, each of which is closed, holds no ordinary object, or is pinned: so while
+//   4. To read pages again, a run of the lowest open ones is closed, none of them pinned, and just these are read, with marking between, before
+//      the lock is given back. Where there is none, the lowest dirty ones are read, each of which is closed, holds no ordinary object, or is pinned: so while
 //      a page is pinned this is done in a stop. That is the second thing.
 //   5. Before mprotect has closed a page each processor that could write there has dropped its translation, and so has made its stores there:
 //      the step sees them. A thread whose store comes later faults. A store is done again when its thread goes on, and may fault again.

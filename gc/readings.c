@@ -155,11 +155,11 @@ static bool go_on(uint64_t *left)
 }
 
 // A piece of a cycle: some are read of those that are marked, and some of what they lead to is marked. Answers whether there is more to do,
-// once all is marked.
+// once all is marked. Where it stops other threads it is of more, as other pieces are (names/collections.c).
 bool mpgc_read_some_described(void)
 {
-    enum { WORDS = 4096 };
-    uint64_t left = WORDS;
+    enum { ALONE = 4096, STOPPING = 32768 };
+    uint64_t left = mpgc_is_last_thread() ? ALONE : STOPPING;
     bool is_more = true;
     begin_early();
     mpgc_empty_stack();

@@ -134,7 +134,7 @@ if command -v clang >"$room/said"; then CC=clang build "$room/clang"; else skip 
 . "$top/tests/gc/parts/headers.sh"
 
 # Each function, each place of roots, and what stands round the barrier.
-tests=(functions settings macros inline limits links frees uncollectable pacing leaks unmapped finalizers typed kinds asking
+tests=(functions settings macros inline limits links frees uncollectable pacing wide leaks unmapped finalizers typed kinds asking
     without_memory roots neighbours barrier crowded mapped kernel copies direct aio lookups submitted notices within sleeping sorting signals handlers moments interrupted process shadow threads world loading
     registering stopping turns goodbyes suspending faulting waiting walking starting locks leaving joining behind together collector marking stacks)
 build_test() { "${c[@]}" "$top/tests/gc/$1.c" "-L$room" -lmpgc "-Wl,-rpath,$room" -pthread -o "$room/$1"; }
@@ -156,11 +156,11 @@ beside counts starting "$room/starting"
 
 # What works on one thread, or on few: the longest first.
 for test in moments interrupted mapped; do queued counts "$test" "$room/$test"; done
-for test in functions settings links frees pacing; do
+for test in functions settings links frees pacing wide; do
     queued counts "$test" "$room/$test"
     queued counts "$test, in small steps" env GC_ENABLE_INCREMENTAL=1 "$room/$test"
 done
-queued counts "frees, beside the collector's thread" env GC_COLLECTOR_THREAD=1 "$room/frees"
+for test in frees wide; do queued counts "$test, beside the collector's thread" env GC_COLLECTOR_THREAD=1 "$room/$test"; done
 for test in inline unmapped uncollectable finalizers typed kinds asking registering leaving waiting roots; do
     queued counts "$test" "$room/$test"
     queued counts "$test, in small steps" env INCREMENTAL=1 "$room/$test"

@@ -13,6 +13,7 @@ struct figures {
     size_t entries, most_entries;  // of all tables (table.c), and past how many a request looks what is due
     size_t limit;                  // the most pages that the program lets the heap have
     unsigned long cycles, full, faults, retraces, rounds;
+    size_t most_left;              // pages that were dirty at a cycle's end, at most
     double longest_cycle_end, longest_full, full_time;  // microseconds
     unsigned long stops;                                // of other threads, with what their stopping took
     double longest_stop, stop_time, longest_standing;    // the last: from the request to the going on

@@ -23,9 +23,9 @@ static size_t pages_of(size_t bytes) { return bytes / PAGE + (bytes % PAGE != 0)
 static void print_figures(void)
 {
     struct figures *all = &mpgc_figures;
-    fprintf(stderr, "mpgc: %lu collections: %lu full, the longest %.0f us; %lu cycles, their longest end %.0f us, %lu faults, "
-            "%lu pages read again; %zu pages, %zu bytes asked for\n", (unsigned long)GC_gc_no, all->full, all->longest_full, all->cycles,
-            all->longest_cycle_end, all->faults, all->retraces, GC_get_heap_size() / PAGE, GC_get_total_bytes());
+    fprintf(stderr, "mpgc: %lu collections: %lu full, the longest %.0f us; %lu cycles, their longest end %.0f us, at most %zu pages left to it, "
+            "%lu faults, %lu pages read again; %zu pages, %zu bytes asked for\n", (unsigned long)GC_gc_no, all->full, all->longest_full,
+            all->cycles, all->longest_cycle_end, all->most_left, all->faults, all->retraces, GC_get_heap_size() / PAGE, GC_get_total_bytes());
     if (all->stops) fprintf(stderr, "mpgc: %lu stops of other threads, %.0f us each until the last one stood, at most %.0f us; "
                             "at most %.0f us until they went on\n", all->stops, all->stop_time / (double)all->stops, all->longest_stop,
                             all->longest_standing);

@@ -11,7 +11,8 @@
 // since the last one, and at least sixteen, or half of the last cycle's; and little is asked for between two, so that each leaves fewer
 // dirty pages than the one before it. Where no more than half a batch is dirty the roots are read once more, and then the cycle ends. And
 // behind a cycle with many faults the next one begins with its pages open, all of them dirty: none faults then before it was read again,
-// and a fault costs three times what reading a page again costs. Where most pages can't be closed, since the kernel would need too many
+// and a fault costs three times what reading a page again costs. What a page leads to is marked before the next one is read (cycle.c), and counts among
+// the step's words: so a batch may take several steps. Where most pages can't be closed, since the kernel would need too many
 // mappings, a cycle's end would read them all, which is longer than to mark all once: so full collections come in its place for a while.
 #include "paced.h"
 
@@ -34,6 +35,7 @@ static bool is_late;             // pages are read again
 static bool has_read_described;  // since the roots were read
 static bool is_open;             // cycles begin with open pages
 static uint64_t marked;          // words, since the roots were read
+static uint64_t marked_before;   // in all, before pages are read again
 
 bool mpgc_is_in_cycle(void) { return next != SWEEP && next != START; }
 
@@ -119,6 +121,7 @@ static enum piece roots_or_end(void)
     size_t faults = mpgc_figures.faults - faults_before;
     if (is_little || root_rounds == ROOT_ROUNDS) {
         count_pages(faults);
+        if (mpgc_dirty_pages() > mpgc_figures.most_left) mpgc_figures.most_left = mpgc_dirty_pages();
         is_open = faults * (is_open ? STILL : WRITTEN) > mpgc_pages_of(ORDINARY);
         return END;
     }
@@ -127,17 +130,21 @@ static enum piece roots_or_end(void)
     return ROOTS;
 }
 
-// So many words were marked, and so many are left of the step.
+// So many words were marked of those that are left of the step. Answers whether it is over.
+static bool uses_up(uint64_t words, uint64_t *left)
+{
+    *left -= words < *left ? words : *left;
+    if (*left == 0) last_dirty = MAX_PAGES;
+    return *left == 0;
+}
+
 static enum piece after_mark(uint64_t read, uint64_t *left)
 {
-    *left -= read;
     marked += read;
-    if (*left == 0) {
-        last_dirty = MAX_PAGES;
-        return NO_PIECE;
-    }
+    if (uses_up(read, left)) return NO_PIECE;
     if (!has_read_described && mpgc_count_described() > 0 && mpgc_is_moment_over()) return DESCRIBED;
     if (left_in_batch == 0) left_in_batch = next_batch();
+    marked_before = mpgc_figures.marked;
     return left_in_batch == 0 ? roots_or_end() : REREAD;
 }
 
@@ -148,13 +155,14 @@ static enum piece after_described(bool is_more)
     return is_more ? NO_PIECE : MARK;
 }
 
-static enum piece after_reread(size_t pages)
+static enum piece after_reread(size_t pages, uint64_t *left)
 {
     if (pages == 0) return roots_or_end();
     left_in_batch -= pages < left_in_batch ? pages : left_in_batch;
     last_dirty -= pages < last_dirty ? pages : last_dirty;
     in_step += pages;
-    if (left_in_batch > 0 && (!mpgc_is_beside() || in_step < AT_ONCE * mpgc_lag())) return MARK;
+    bool is_over = uses_up(mpgc_figures.marked - marked_before, left);
+    if (!is_over && left_in_batch > 0 && (!mpgc_is_beside() || in_step < AT_ONCE * mpgc_lag())) return MARK;
     in_step = 0;
     return NO_PIECE;
 }
@@ -173,7 +181,7 @@ static enum piece piece_after(enum piece piece, uint64_t did, uint64_t *left)
     case BEGIN: begin(); return stop_before(ROOTS);
     case ROOTS: marked = 0; has_read_described = false; return stop_before(MARK);
     case MARK: return after_mark(did, left);
-    case REREAD: return after_reread(did);
+    case REREAD: return after_reread(did, left);
     case DESCRIBED: return after_described(did);
     default: return NO_PIECE;
     }
