@@ -32,6 +32,7 @@ is_installed() { dpkg-query -W -f '${Status}' "$1" 2>/dev/null | grep -q 'ok ins
 compile() {
     local made
     case $1 in
+        ats) (cd "$room/made" && PATSHOME=/usr/lib/ats2-postiats-0.4.2 patscc -DATS_MEMALLOC_GCBDW "$inputs/lists.dats" -o lists.ats -lgc) ;;
         crystal-threads) (cd "$room/made" && crystal build --no-color -Dpreview_mt "$inputs/fibers.cr" -o fibers.threads) ;;
         crystal-program) (cd "$room/made" && crystal build --no-color "$inputs"/*.cr -o "$(basename "$inputs"/*.cr .cr).crystal") ;;
         homfly) cc "$inputs/knot.c" -o "$room/made/knot" -lhomfly ;;
@@ -41,6 +42,7 @@ compile() {
                 nekoc "$room/made/made-$(basename "$made")"
             done
             ;;
+        mdk) (cd "$room/made" && cp "$inputs/count.mixal" . && mixasm count.mixal) ;;
         objective-c) gcc -std=gnu11 "$inputs/list.m" -o "$room/made/list" -lobjc_gc ;;
         stalin-program)
             (cd "$room/made" && cp "$inputs/list.sch" . && stalin -d -On -Ob -Om -Or -Ot -c list.sch &&
