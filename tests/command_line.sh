@@ -172,8 +172,8 @@ words_of_commands_on_files_are_told() {
     refuses "'b' is a second FILE, behind 'a'" draw --pages 4 a b
     refuses "'b' is a second FILE, behind 'a'" draw --pages 4 --run a b
     refuses "'draw' has no option '--runs': the nearest is '--run'" draw --pages 4 --runs a
-    refuses "'replay' lacks '--pages'" replay
-    refuses "'replay' lacks '--pages'" replay --why no.run
+    refuses "'replay' lacks '--pages', or '--places any' for a run that says its range itself" replay
+    refuses "'replay' lacks '--pages', or '--places any' for a run that says its range itself" replay --why no.run
     refuses "'replay' lacks its FILE" replay --pages 4
     refuses "'replay' lacks its FILE" replay --pages 4 --why
     refuses "'replay' lacks its FILE" replay --pages 4 --places any
@@ -186,7 +186,7 @@ words_of_commands_on_files_are_told() {
 
 ranges_are_told() {
     local from="8 to 18446744073709551608, in decimal, a multiple of 8" bytes="4096 to 16777216, in decimal, a multiple of 4096"
-    refuses "'replay' lacks '--pages'" replay --places any --from 8 no.run
+    refuses "'replay' lacks '--pages' or '--bytes': '--from' says only where the heap begins" replay --places any --from 8 no.run
     refuses "'--pages' and '--bytes' say the same of a heap" replay --places any --pages 1 --bytes 4096 no.run
     refuses "'--from' is for '--places any' alone" replay --pages 1 --from 8 no.run
     refuses "'--bytes' is for '--places any' alone" replay --places classes --bytes 4096 no.run
@@ -212,7 +212,7 @@ words_of_the_wrapper_are_told() {
     refuses "'package' lacks its DIR" package
     refuses "'install' lacks its PREFIX" install
     refuses "'b' is a second PREFIX, behind 'a'" install a b
-    refuses "'zsh' is no word for 'SHELL', only bash: the nearest is 'bash'" completion zsh
+    refuses "'zsh' is no word for 'SHELL', only bash" completion zsh
     refuses "'bash' is a second SHELL, behind 'bash'" completion bash bash
     refuses "'build' has no option '--pages'" build --pages 4
     refuses "'rnu' is no word for 'COMMAND', only run, threads, stress, record, replay, draw, build, test, package, install, completion, manual, help: the nearest is 'run'" help rnu

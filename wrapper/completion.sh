@@ -35,8 +35,9 @@ completion() {
     esac
 }
 _mpheap() {
-    local word=${COMP_WORDS[COMP_CWORD]} command=
-    [ "$COMP_CWORD" = 1 ] || command=${COMP_WORDS[1]}
+    local word=${COMP_WORDS[COMP_CWORD]} command= at=1
+    while [ "$at" -lt "$COMP_CWORD" ] && [ "${COMP_WORDS[at]}" = --quiet ]; do at=$((at + 1)); done
+    [ "$COMP_CWORD" = "$at" ] || command=${COMP_WORDS[at]}
     mapfile -t COMPREPLY < <(_mpheap_choices "$command" "${COMP_WORDS[COMP_CWORD - 1]}")
 }
 complete -o filenames -F _mpheap mpheap

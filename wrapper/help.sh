@@ -58,7 +58,8 @@ version() {
     fi
 }
 
-# nearest WORD LIST: which of the list is the nearest to an unknown word, by how many letters are to be changed, if any is near.
+# nearest WORD LIST: which of the list is the nearest to an unknown word, by how many letters are to be changed, if any is near. Of a list of one
+# word nothing is said: that it is the only one was.
 nearest() {
     awk -v word="${1//\\/}" -v list="$2" '
         function least(a, b) { return a < b ? a : b }
@@ -82,7 +83,7 @@ nearest() {
                 many = length(word) > 2 && index(known[at], word) == 1 ? 1 : changes(word, known[at])
                 if (many < fewest && many < length(known[at])) { fewest = many; name = known[at] }
             }
-            if (fewest < 3) printf ": the nearest is \047%s\047", name
+            if (fewest < 3 && count > 1) printf ": the nearest is \047%s\047", name
         }
     '
 }

@@ -8,7 +8,7 @@ escaped() {
 
 # page_of COMMAND: its form, what it does, and its rows.
 page_of() {
-    local at range
+    local at
     printf '.SS "%s"\n%s.\n' "$(escaped "mpheap $(form "$1")")" "$(escaped "${does[$1]}")"
     for at in ${rows_of[$1]}; do tell_row "$at"; done
 }

@@ -139,7 +139,10 @@ look_for_missing() {
 # Says what is wrong with the range of a run's heap.
 look_at_range() {
     local pages=${given[--pages]-} bytes=${given[--bytes]-} from=${given[--from]-}
-    [[ -n $pages$bytes || (${given[--places]-} = any && -z $from) ]] || bad_words "'replay' lacks '--pages'"
+    if [[ -z $pages$bytes && ${given[--places]-} != any ]]; then
+        bad_words "'replay' lacks '--pages', or '--places any' for a run that says its range itself"
+    fi
+    [[ -n $pages$bytes || -z $from ]] || bad_words "'replay' lacks '--pages' or '--bytes': '--from' says only where the heap begins"
     [[ -z $pages || -z $bytes ]] || bad_words "'--pages' and '--bytes' say the same of a heap"
     if [[ ${given[--places]-} != any ]]; then
         [[ -z $from ]] || bad_words "'--from' is for '--places any' alone"

@@ -66,6 +66,7 @@ words_are_completed() {
     completes "mpheap threads --record some" some.script
     completes "mpheap build re" record replay
     completes "mpheap help thr" threads
+    completes "mpheap --quiet build re" record replay
     rm some.script
 }
 
