@@ -39,9 +39,8 @@ typedef long GC_signed_word;
 #define GC_NOT_FOUND 4
 
 /* The beginning and the end. GC_init is called by the first request if it wasn't before. It reads from the environment
- * GC_INITIAL_HEAP_SIZE and GC_MAXIMUM_HEAP_SIZE (bytes, with k, M or G behind them), GC_ENABLE_INCREMENTAL,
- * GC_DISABLE_INCREMENTAL, GC_COLLECTOR_THREAD, GC_DONT_GC, GC_FREE_SPACE_DIVISOR and GC_PRINT_STATS. GC_INIT is a statement that does too
- * what the program's macros say (gc/gc_init.h). */
+ * what libmpgc(3) lists: GC_INITIAL_HEAP_SIZE and GC_MAXIMUM_HEAP_SIZE (bytes, with k, M or G behind them), GC_ENABLE_INCREMENTAL,
+ * GC_DONT_GC, GC_PRINT_STATS and others. GC_INIT is a statement that does too what the program's macros say (gc/gc_init.h). */
 #include "gc/gc_init.h"
 GC_API void GC_init(void);
 GC_API int GC_is_init_called(void);
