@@ -77,10 +77,9 @@ static void seventeen_come(void) {
     me = 0;
 }
 
-/* Each place of each call, one number too large. */
-static void numbers_are_out_of_range(void) {
-    enum { S = MPHEAP_SLOTS, R = MPHEAP_REGISTERS, G = MPHEAP_GLOBALS };
-    IS(mpheap_set(&heap, me, NUMBER, 42), MPHEAP_OK);
+enum { S = MPHEAP_SLOTS, R = MPHEAP_REGISTERS, G = MPHEAP_GLOBALS };  /* one too large */
+
+static void numbers_of_calls_that_answer_a_word(void) {
     STAYS(MPHEAP_BAD_NUMBER, mpheap_get(&heap, S, 0, &word));
     STAYS(MPHEAP_BAD_NUMBER, mpheap_get(&heap, me, R, &word));
     STAYS(MPHEAP_BAD_NUMBER, mpheap_get(&heap, UINT8_MAX, UINT8_MAX, &word));
@@ -105,6 +104,11 @@ static void numbers_are_out_of_range(void) {
     STAYS(MPHEAP_BAD_NUMBER, mpheap_alloc_many(&heap, me, R, 1, many, MANY, &word));
     STAYS(MPHEAP_BAD_NUMBER, mpheap_alloc_pointer_free_many(&heap, S, 0, 1, many, MANY, &word));
     STAYS(MPHEAP_BAD_NUMBER, mpheap_alloc_pointer_free_many(&heap, me, R, 1, many, MANY, &word));
+    STAYS(MPHEAP_BAD_NUMBER, mpheap_unlink(&heap, S, 0, 0, &word));
+    STAYS(MPHEAP_BAD_NUMBER, mpheap_unlink(&heap, me, R, 0, &word));
+}
+
+static void numbers_of_calls_on_registers(void) {
     IS(mpheap_detach(&heap, S), MPHEAP_BAD_NUMBER);
     IS(mpheap_set(&heap, S, NUMBER, 5), MPHEAP_BAD_NUMBER);
     IS(mpheap_set(&heap, me, R, 5), MPHEAP_BAD_NUMBER);
@@ -123,20 +127,29 @@ static void numbers_are_out_of_range(void) {
     IS(mpheap_gput(&heap, S, 0, NUMBER), MPHEAP_BAD_NUMBER);
     IS(mpheap_gput(&heap, me, G, NUMBER), MPHEAP_BAD_NUMBER);
     IS(mpheap_gput(&heap, me, 0, R), MPHEAP_BAD_NUMBER);
+}
+
+static void numbers_of_calls_on_objects(void) {
     IS(mpheap_store(&heap, S, 0, 0, 0), MPHEAP_BAD_NUMBER);
     IS(mpheap_store(&heap, me, R, 0, 0), MPHEAP_BAD_NUMBER);
     IS(mpheap_store(&heap, me, 0, 0, R), MPHEAP_BAD_NUMBER);
     IS(mpheap_link(&heap, S, 0, 0, 0), MPHEAP_BAD_NUMBER);
     IS(mpheap_link(&heap, me, R, 0, 0), MPHEAP_BAD_NUMBER);
     IS(mpheap_link(&heap, me, 0, 0, R), MPHEAP_BAD_NUMBER);
-    STAYS(MPHEAP_BAD_NUMBER, mpheap_unlink(&heap, S, 0, 0, &word));
-    STAYS(MPHEAP_BAD_NUMBER, mpheap_unlink(&heap, me, R, 0, &word));
     IS(mpheap_alloc(&heap, S, NUMBER, 1), MPHEAP_BAD_NUMBER);
     IS(mpheap_alloc(&heap, me, R, 1), MPHEAP_BAD_NUMBER);
     IS(mpheap_alloc_pointer_free(&heap, S, NUMBER, 1), MPHEAP_BAD_NUMBER);
     IS(mpheap_alloc_pointer_free(&heap, me, R, 1), MPHEAP_BAD_NUMBER);
     IS(mpheap_free(&heap, S, 0), MPHEAP_BAD_NUMBER);
     IS(mpheap_free(&heap, me, R), MPHEAP_BAD_NUMBER);
+}
+
+/* Each place of each call. */
+static void numbers_are_out_of_range(void) {
+    IS(mpheap_set(&heap, me, NUMBER, 42), MPHEAP_OK);
+    numbers_of_calls_that_answer_a_word();
+    numbers_of_calls_on_registers();
+    numbers_of_calls_on_objects();
     IS(in(NUMBER), 42);
     IS(mpheap_free_pages(&heap), 4);
 }
