@@ -8,7 +8,7 @@ const MOST_LOOKED = 40000; // so many words are looked at for arrows
 
 // where an arrow to a word ends
 function target(word) {
-  const place = Math.floor((word - FIRST) / 8);
+  const place = placeOf(word);
   const s = spot(place);
   if (s) return { x: s.x + plan.u / 2, top: s.y, bottom: s.y + plan.rowH };
   if (!plan.isMap) return null;
@@ -147,7 +147,7 @@ function addRootArrows(arrows, mode, focus) {
 
 // An entry of the mark stack names an object that may be forgotten; other words point into kept ones alone.
 function pointedAt({ key, word }) {
-  return isEntryKey(key) ? heap.objects.get((word - FIRST) / 8) : heap.find(word);
+  return isEntryKey(key) ? heap.objects.get(placeOf(word)) : heap.find(word);
 }
 
 // Arrows to and from the selected object, and of the words that the line wrote; answers whose they are.

@@ -32,7 +32,7 @@ class Ever {
 
   // An object's pages are used as far as it goes.
   noteObject([place, , words]) {
-    const end = words > 256 ? PAGE : wordInPage(place) + words;
+    const end = words > MOST_SMALL ? PAGE : wordInPage(place) + words;
     for (const p of pagesUnder({ place, words })) {
       if (!this.pages.has(p)) this.pages.set(p, new Map());
       const ends = this.pages.get(p);

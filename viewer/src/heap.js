@@ -3,13 +3,17 @@
 // A place is the number of a word of the heap: address = 268435456 + 8 * place.
 
 const FIRST = 268435456;
-const PAGE = 512;
+const PAGE_BITS = 9;
+const PAGE = 1 << PAGE_BITS; // words of a page
+const MOST_SMALL = 256; // words: a larger object has pages of its own
+const GLOBALS = 64;
 const SETS = ['marked', 'reached', 'touched', 'dirty', 'carried', 'pending'];
 const SETS_OF_PAGES = new Set(['dirty', 'carried', 'pending']);
 
-const pageOf = (place) => place >> 9;
-const wordInPage = (place) => place & 511;
+const pageOf = (place) => place >> PAGE_BITS;
+const wordInPage = (place) => place & (PAGE - 1);
 const addressOf = (place) => FIRST + 8 * place;
+const placeOf = (address) => Math.floor((address - FIRST) / 8);
 
 // the pages that an object lies on
 function* pagesUnder(object) {
@@ -102,7 +106,7 @@ class Heap {
     this.count = 0;
     this.objects = new Map(); // place -> {place, birth, words, kind, forgotten}
     this.mutators = new Map(); // slot -> {regs, stack}
-    this.globals = new Array(64).fill(0);
+    this.globals = new Array(GLOBALS).fill(0);
     this.links = new Map(); // place of the word -> place of the named object
     this.entries = []; // [place, next word], the top last
     this.current = null;
@@ -146,7 +150,7 @@ class Heap {
   // the kept object that a word points into
   find(word) {
     if (!this.isInside(word)) return null;
-    const object = this.objectOver(Math.floor((word - FIRST) / 8));
+    const object = this.objectOver(placeOf(word));
     return object && !object.forgotten ? object : null;
   }
 
@@ -214,7 +218,7 @@ class Heap {
       this.cells[p]++;
       this.size[p] = object.words;
       this.atomic[p] = object.kind;
-      this.head[p] = object.words > 256 ? pageOf(object.place) : -1;
+      this.head[p] = object.words > MOST_SMALL ? pageOf(object.place) : -1;
       this.stale.add(p);
     }
   }

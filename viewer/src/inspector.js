@@ -38,7 +38,7 @@ function infoOfRoot({ key, word, says }) {
 
 function pointsInto(word) {
   const object = heap.find(word);
-  if (!object) return isInHeap(word) ? `nothing (page ${(word - FIRST) >> 12})` : 'nothing: no address of the heap';
+  if (!object) return isInHeap(word) ? `nothing (page ${pageOf(placeOf(word))})` : 'nothing: no address of the heap';
   const bytes = word - addressOf(object.place);
   return `${to('pick', object.place, '#' + object.birth)}, ${bytes ? `${bytes} bytes in` : 'its base'}`;
 }

@@ -62,8 +62,8 @@ function openPages(isNew) {
 // An opened page shows all its cells, and a free one is a frame.
 function extentOf(p) {
   const size = heap.cells[p] ? heap.size[p] : 0;
-  if (!size) return [[256, 1]];
-  return [[size, size > 256 ? PAGE : Math.floor(PAGE / size) * size]];
+  if (!size) return [[MOST_SMALL, 1]];
+  return [[size, size > MOST_SMALL ? PAGE : Math.floor(PAGE / size) * size]];
 }
 
 function drawAllPages() {

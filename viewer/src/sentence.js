@@ -33,7 +33,7 @@ function ofPhase(record) {
 
 function ofNew(record) {
   return (record.new || []).map(([place, birth, words, kind]) => {
-    const where = `page ${pageOf(place)}${words > 256 ? '' : `, cell ${Math.floor(wordInPage(place) / words)}`}`;
+    const where = `page ${pageOf(place)}${words > MOST_SMALL ? '' : `, cell ${Math.floor(wordInPage(place) / words)}`}`;
     const marked = heap.marked.has(place) ? ', marked as it comes' : '';
     return `object #${birth} comes: ${words} words, ${kind ? 'atomic' : 'normal'}, ${where}${marked}`;
   });

@@ -28,7 +28,10 @@ function told(word) {
     const bytes = word - addressOf(object.place);
     return `#${object.birth}${bytes ? '+' + (bytes % 8 ? `${bytes}B` : bytes / 8) : ''}`;
   }
-  if (isInHeap(word)) return `p${(word - FIRST) >> 12}+${Math.floor(((word - FIRST) % 4096) / 8)}`;
+  if (isInHeap(word)) {
+    const place = placeOf(word);
+    return `p${pageOf(place)}+${wordInPage(place)}`;
+  }
   const text = String(word);
   return text.length <= 9 ? text : text.slice(0, 6) + '..';
 }
