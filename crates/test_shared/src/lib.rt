@@ -24,3 +24,5 @@ mod serve;
 mod stress;
 #[cfg(test)]
 mod threads;
+#[cfg(test)]
+mod unlocked;

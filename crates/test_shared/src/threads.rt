@@ -37,8 +37,8 @@ impl<'a, J: Naming, R: Wait> Law<Job<'a, J, R>> for Runs {
     ghost does = { λ law job done. Unit {0} };
 }
 
-// Whether the flag was raised within so many turns.
-fn look(flag: &AtomicU64) -> bool {
+/// Whether the flag was raised within so many turns.
+pub fn look(flag: &AtomicU64) -> bool {
     for _ in 0..TURNS {
         if flag.load(Ordering::SeqCst) == 1 {
             return true;
