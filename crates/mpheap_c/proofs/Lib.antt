@@ -2,3 +2,4 @@ mod AsBox
 mod Inside
 mod Walks
 mod Places
+mod Crosses

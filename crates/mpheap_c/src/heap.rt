@@ -19,3 +19,5 @@ pub struct Heap {
 impl Model for Heap {
     ghost also_owns = { λ h. core_owns h.alloc h.at h.core };
 }
+
+unsafe impl Send for Heap {}

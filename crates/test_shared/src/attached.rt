@@ -2,7 +2,7 @@
 use crate::serve::serve_call;
 use heap_spec::{Call, Reply};
 use history::Naming;
-use shared::{Departed, Mutator, SharedHeap};
+use shared::{Mutator, SharedHeap};
 use std::process::Abort;
 use std::sync::Wait;
 
@@ -24,21 +24,6 @@ impl<'a, J: Naming, R: Wait> Attached<'a, J, R> {
     /// Makes a call.
     pub fn call(&mut self, call: Call) -> Reply {
         serve_call(self.rt, self.heap, &mut self.me, call)
-    }
-
-    /// How many collections it knows of.
-    pub fn count(&mut self) -> u64 {
-        self.heap.gc_no(&mut self.me)
-    }
-
-    /// Both have then seen what one of them had.
-    pub fn meet(&mut self, other: &mut Attached<'_, J, R>) {
-        self.heap.meet(&mut self.me, &mut other.me);
-    }
-
-    /// It has then seen what a mutator had that left.
-    pub fn hear(&mut self, gone: &mut Departed<J>) {
-        self.heap.hear(&mut self.me, gone);
     }
 
     /// The number of its slot.

@@ -1,12 +1,11 @@
 //! The calls that take no lock answer while another thread has it.
 ghost use Rattle.std.specs.Prelude.{◌≡◌};
 
-use crate::attached::{Attached, attach};
 use crate::threads::look;
-use each_law::{Law, run_each};
+use each_law::{Law, run_each_beside};
 use heap_core::Core;
 use history::{Naming, Opened, Quiet};
-use shared::{Collector, Departed, SharedHeap, open};
+use shared::{Collector, Mutator, SharedHeap, open};
 use std::alloc::{AllocError, Global};
 use std::marker::Brand;
 use std::process::Abort;
@@ -41,106 +40,136 @@ impl Quiet<Core> for Holding<'_> {
     }
 }
 
-// Who works in a thread: the collector, which holds the lock, or mutators, which make the calls meanwhile.
+// The collector, which holds the lock, and whether it saw that the calls have answered.
 #[derive(Drop)]
-enum Part<'a, J: Naming, R: Wait> {
-    Holder(Collector<J>),
-    Askers(Attached<'a, J, R>, Attached<'a, J, R>, Departed<J>),
-}
-
-#[derive(Drop)]
-struct Job<'a, J: Naming, R: Wait> {
+struct Holder<'a, J: Naming, R: Wait> {
     rt: &'a R,
     heap: &'a SharedHeap<J>,
+    collector: Collector<J>,
     flags: &'a Flags,
-    part: Part<'a, J, R>,
     seen: bool,
 }
 
-// What becomes of a job is looked at by the test.
-struct Runs;
-
-impl<'a, J: Naming, R: Wait> Law<Job<'a, J, R>> for Runs {
-    ghost does = { λ law job done. Unit {0} };
+// Two mutators, which make the calls meanwhile, and whether they saw that the lock was held. They are detached where they are dropped.
+struct Asker<'a, J: Naming, R: Wait> {
+    rt: &'a R,
+    heap: &'a SharedHeap<J>,
+    me: Mutator<J>,
+    other: Mutator<J>,
+    flags: &'a Flags,
+    seen: bool,
 }
 
-// Makes the calls once the lock is held. Answers whether it was.
-fn ask<J: Naming, R: Wait>(
-    flags: &Flags,
-    me: &mut Attached<'_, J, R>,
-    other: &mut Attached<'_, J, R>,
-    gone: &mut Departed<J>,
-) -> bool {
-    let held = look(&flags.held);
-    me.count();
-    me.meet(other);
-    me.hear(gone);
-    flags.answered.store(1, Ordering::SeqCst);
-    held
-}
-
-fn run_job<'a, J: Naming, R: Wait>(job: Job<'a, J, R>) -> Job<'a, J, R> {
-    let Job {
-        rt,
-        heap,
-        flags,
-        mut part,
-        ..
-    } = job;
-    let seen = match &mut part {
-        Part::Holder(collector) => heap.quiet(rt, collector, &mut Holding { flags }),
-        Part::Askers(me, other, gone) => ask(flags, me, other, gone),
-    };
-    Job {
-        rt,
-        heap,
-        flags,
-        part,
-        seen,
+impl<'a, J: Naming, R: Wait> Drop for Asker<'a, J, R> {
+    fn drop(self) {
+        let Self {
+            rt,
+            heap,
+            me,
+            other,
+            flags: _,
+            seen: _,
+        } = self;
+        heap.detach(rt, me);
+        heap.detach(rt, other);
     }
 }
 
-fn make_job<'a, J: Naming, R: Wait>(
+// What becomes of either is looked at by the test.
+struct Runs;
+
+impl<T> Law<T> for Runs {
+    ghost does = { λ law job done. Unit {0} };
+}
+
+fn hold<'a, J: Naming, R: Wait>(holder: Holder<'a, J, R>) -> Holder<'a, J, R> {
+    let mut holder = holder;
+    let mut work = Holding {
+        flags: holder.flags,
+    };
+    holder.seen = holder
+        .heap
+        .quiet(holder.rt, &mut holder.collector, &mut work);
+    holder
+}
+
+// The calls, which answer nothing that isn't known.
+fn make_calls<J: Naming>(heap: &SharedHeap<J>, me: &mut Mutator<J>, other: &mut Mutator<J>) {
+    heap.gc_no(me);
+    heap.meet(me, other);
+}
+
+fn ask<'a, J: Naming, R: Wait>(asker: Asker<'a, J, R>) -> Asker<'a, J, R> {
+    let mut asker = asker;
+    asker.seen = look(&asker.flags.held);
+    let Asker {
+        heap,
+        me,
+        other,
+        flags,
+        ..
+    } = &mut asker;
+    make_calls(heap, me, other);
+    flags.answered.store(1, Ordering::SeqCst);
+    asker
+}
+
+// Two mutators come.
+fn come<'a, J: Naming, R: Wait + Abort>(
     rt: &'a R,
     heap: &'a SharedHeap<J>,
     flags: &'a Flags,
-    part: Part<'a, J, R>,
-) -> Job<'a, J, R> {
-    Job {
+) -> Asker<'a, J, R> {
+    let me = heap.attach(rt).ok().expect(rt, "a slot");
+    let other = heap.attach(rt).ok().expect(rt, "a slot");
+    Asker {
         rt,
         heap,
+        me,
+        other,
         flags,
-        part,
         seen: false,
     }
 }
 
-// A mutator comes and goes, and two stay.
-fn askers<'a, J: Naming, R: Wait + Abort>(
-    rt: &'a R,
-    heap: &'a SharedHeap<J>,
-) -> Part<'a, J, R> {
-    let first = heap.attach(rt).ok().expect(rt, "a slot");
-    let gone = heap.depart(rt, first);
-    Part::Askers(attach(rt, heap), attach(rt, heap), gone)
+fn one<'a, J: Naming, R: Wait>(
+    alloc: Global,
+    asker: Asker<'a, J, R>,
+) -> Result<Vec<Asker<'a, J, R>>, AllocError> {
+    let mut askers = Vec::new(alloc);
+    askers.push(asker)?;
+    Ok(askers)
 }
 
-// Whether both saw the other's flag.
-fn run_both<J: Naming + Send + Sync, R: Threads + Wait + Abort + Sync>(
+// Whether each saw what the other did.
+fn ask_beside<'a, J: Naming + Send + Sync, R: Threads + Wait + Sync>(
     rt: &R,
     alloc: Global,
-    heap: &SharedHeap<J>,
-    collector: Collector<J>,
+    askers: Vec<Asker<'a, J, R>>,
+    holder: Holder<'a, J, R>,
 ) -> Result<bool, AllocError> {
-    let flags = Flags {
-        held: AtomicU64::new(0),
-        answered: AtomicU64::new(0),
+    let (askers, holder) = run_each_beside::<_, _, Runs, _, _, Runs, _>(
+        rt, alloc, &Runs, &ask, askers, &Runs, &hold, holder,
+    )?;
+    Ok(holder.seen && askers.as_slice().iter().all(|asker| asker.seen))
+}
+
+fn run_both<'a, J: Naming + Send + Sync, R: Threads + Wait + Abort + Sync>(
+    rt: &'a R,
+    alloc: Global,
+    heap: &'a SharedHeap<J>,
+    collector: Collector<J>,
+    flags: &'a Flags,
+) -> Result<bool, AllocError> {
+    let askers = one(alloc, come(rt, heap, flags))?;
+    let holder = Holder {
+        rt,
+        heap,
+        collector,
+        flags,
+        seen: false,
     };
-    let mut jobs = Vec::new(alloc);
-    jobs.push(make_job(rt, heap, &flags, Part::Holder(collector)))?;
-    jobs.push(make_job(rt, heap, &flags, askers(rt, heap)))?;
-    let jobs = run_each::<_, _, Runs, _>(rt, alloc, &Runs, &run_job, jobs)?;
-    Ok(jobs.as_slice().iter().all(|job| job.seen))
+    ask_beside(rt, alloc, askers, holder)
 }
 
 fn ask_a_held_heap<J: Naming + Send + Sync, R: Threads + Wait + Abort + Sync>(
@@ -150,8 +179,12 @@ fn ask_a_held_heap<J: Naming + Send + Sync, R: Threads + Wait + Abort + Sync>(
 ) -> Result<bool, AllocError>
     requires { (opened.table ≡ J.table) × (opened.origin ≡ J.origin) }
 {
+    let flags = Flags {
+        held: AtomicU64::new(0),
+        answered: AtomicU64::new(0),
+    };
     let (heap, collector) = SharedHeap::<J>::named(opened);
-    run_both(rt, alloc, &heap, collector)
+    run_both(rt, alloc, &heap, collector, &flags)
 }
 
 #[test]
