@@ -50,9 +50,11 @@ static _Atomic uint32_t handed;   // so often one of these has got it
 static _Atomic uint32_t giving;   // so many threads sleep until the next one has
 static atomic_bool starves;       // one was woken in vain, and nobody has given way since
 
+// A child by vfork goes by its parent's thread's, which it shares. Of one that isn't known it may have written down its own: so that is asked for anew.
 uint32_t mpgc_my_number(void)
 {
-    if (me == 0) me = (uint32_t)mpgc_call_kernel(SYS_gettid);
+    bool may_be_of_child = !mpgc_self && mpgc_lock_depth == 0;
+    if (me == 0 || may_be_of_child) me = (uint32_t)mpgc_call_kernel(SYS_gettid);
     return me;
 }
 
