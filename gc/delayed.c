@@ -1,7 +1,8 @@
 // Whether a thread that was told to stop will, once the kernel lets it run. Trusted, not proved.
 //
 // The kernel holds a signal back from a thread that waits uninterruptibly: for a disk, or for its child by vfork; and from one that it gives no
-// processor. Such a thread is waited for, for as long as it takes. One that blocks the signal, or was told and didn't answer, is another matter.
+// processor. Such a thread is waited for, for as long as it takes. Where its child starts by posix_spawn it blocks every signal besides. Any other one
+// that blocks the signal, or was told and didn't answer, is another matter.
 // This runs while threads are stopped: so it takes no lock of the C library, and asks for no memory.
 // Counted under threads.
 #include "layer.h"
@@ -36,7 +37,8 @@ bool mpgc_is_held_back(const struct thread *one, int signal)
     int kept = errno;
     read_status(one->number, text, sizeof text);
     errno = kept;
-    return has(text, "SigPnd:", signal) && !has(text, "SigBlk:", signal);
+    bool waits_alone = strstr(text, "State:\tD");
+    return has(text, "SigPnd:", signal) && (waits_alone || !has(text, "SigBlk:", signal));
 }
 
 // Whether one that asked behind its goodbye sleeps in the C library's last moments of a thread, where it blocks all signals, also those of faults:

@@ -5,7 +5,9 @@
 #include <pthread.h>
 #include <signal.h>
 #include <dirent.h>
+#include <spawn.h>
 #include <stdint.h>
+#include <sys/stat.h>
 #include <sys/syscall.h>
 #include <time.h>
 #include "gc.h"
@@ -147,6 +149,39 @@ static int collect_beside_a_start(int seconds)
 }
 static int waits_for_a_slow_one(void) { return collect_beside_a_start(26); }
 
+/* The same where another program is started by posix_spawn, which blocks every signal meanwhile: it waits for a file that somebody opens late. */
+static char late_file[64];
+static void *start_with_a_late_file(void *data)
+{
+    char *words[] = { "true", NULL };
+    posix_spawn_file_actions_t actions;
+    pid_t child;
+    int status;
+    GC_malloc(16);
+    posix_spawn_file_actions_init(&actions);
+    posix_spawn_file_actions_addopen(&actions, 0, late_file, O_RDONLY, 0);
+    if (posix_spawnp(&child, words[0], &actions, NULL, words, environ) != 0) return data;
+    return waitpid(child, &status, 0) == child && status == 0 ? NULL : data;
+}
+static int waits_for_a_slow_start(void)
+{
+    pthread_t thread;
+    void *failed_there;
+    snprintf(late_file, sizeof late_file, "/tmp/mpgc_stopping_%d", (int)getpid());
+    if (mkfifo(late_file, 0600) != 0) return 1;
+    if (fork() == 0) {
+        rest(26);
+        int file = open(late_file, O_RDWR);
+        unlink(late_file);
+        rest(1);
+        _exit(file < 0);
+    }
+    if (pthread_create(&thread, NULL, start_with_a_late_file, &thread) != 0) return 2;
+    rest(0.5);
+    GC_gcollect();
+    return pthread_join(thread, &failed_there) != 0 || failed_there ? 3 : 0;
+}
+
 /* The process is stopped for as long, in the middle of a stop of the world. */
 static int is_stopped_itself(void)
 {
@@ -192,13 +227,13 @@ int main(void)
     pid_t watcher = watch(300);
     GC_INIT();
     GC_allow_register_threads();
-    int (*const slow[])(void) = { is_stopped_itself, waits_for_a_slow_one, is_told_of_one_that_blocks };
-    pid_t children[3];
-    for (int k = 0; k < 3; k++) children[k] = begin_in_child(slow[k]);
+    int (*const slow[])(void) = { is_stopped_itself, waits_for_a_slow_one, waits_for_a_slow_start, is_told_of_one_that_blocks };
+    pid_t children[4];
+    for (int k = 0; k < 4; k++) children[k] = begin_in_child(slow[k]);
     CHECK(ends_well(begins_in_a_stop, 60));
     CHECK(ends_well(handles_signals, 60));
     cancelled();
-    for (int k = 0; k < 3; k++) {
+    for (int k = 0; k < 4; k++) {
         int status = -1;
         while (waitpid(children[k], &status, 0) < 0) continue;
         CHECK(WIFEXITED(status) && WEXITSTATUS(status) == 0);
