@@ -111,11 +111,12 @@ static void on_suspend(int number, siginfo_t *info, void *context)
 static void install(void)
 {
     enum { CANCEL = 32 };
-    struct sigaction ours = { .sa_sigaction = on_suspend, .sa_flags = SA_SIGINFO | SA_RESTART };
+    struct sigaction ours = { .sa_sigaction = on_suspend, .sa_flags = SA_SIGINFO | SA_RESTART }, old;
     if (is_installed) return;
     sigfillset(&ours.sa_mask);
     ours.sa_mask.__val[0] |= (uint64_t)1 << (CANCEL - 1);
-    if (SET_HANDLER(mpgc_stopper, &ours, NULL) != 0) mpgc_stop("the kernel refused what stops threads");
+    if (SET_HANDLER(mpgc_stopper, &ours, &old) != 0) mpgc_stop("the kernel refused what stops threads");
+    mpgc_stopper_stands(&old);
     is_installed = true;
 }
 

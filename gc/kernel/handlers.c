@@ -55,9 +55,10 @@ static bool swap_handler(const struct sigaction *next, struct sigaction *old)
 }
 
 // What the program does on the signal by which threads are stopped: it is given back, and never called while there are threads.
+static struct sigaction kept;
+void mpgc_stopper_stands(const struct sigaction *old) { kept = *old; }
 static bool swap_stopper(const struct sigaction *next, struct sigaction *old)
 {
-    static struct sigaction kept;
     if (!mpgc_is_threaded()) return false;
     if (old) *old = kept;
     if (next) kept = *next;
@@ -92,3 +93,17 @@ SHOWN __sighandler_t sysv_signal(int number, __sighandler_t handler)
     return sigaction(number, &next, &old) == 0 ? old.sa_handler : SIG_ERR;
 }
 SHOWN __sighandler_t __sysv_signal(int number, __sighandler_t handler) { return sysv_signal(number, handler); }
+
+// A later System V's, by which a signal is held too, until it has a handler.
+SHOWN __sighandler_t sigset(int number, __sighandler_t handler)
+{
+    struct sigaction next = { .sa_handler = handler }, was;
+    sigset_t one, old;
+    bool holds = handler == SIG_HOLD;
+    sigemptyset(&one);
+    if (sigaddset(&one, handler == SIG_ERR ? 0 : number) != 0) return SIG_ERR;
+    if (sigaction(number, holds ? NULL : &next, &was) != 0) return SIG_ERR;
+    if (sigprocmask(holds ? SIG_BLOCK : SIG_UNBLOCK, &one, &old) != 0) return SIG_ERR;
+    return sigismember(&old, number) ? SIG_HOLD : was.sa_handler;
+}
+SHOWN int sigignore(int number) { return sigaction(number, &(struct sigaction){ .sa_handler = SIG_IGN }, NULL); }

@@ -55,6 +55,12 @@ static int change_lowest(int how, int signals)
 }
 SHOWN int sigblock(int signals) { return change_lowest(SIG_BLOCK, signals); }
 SHOWN int sigsetmask(int signals) { return change_lowest(SIG_SETMASK, signals); }
+SHOWN int sighold(int signal)
+{
+    sigset_t next;
+    sigemptyset(&next);
+    return sigaddset(&next, signal) == 0 ? sigprocmask(SIG_BLOCK, &next, NULL) : -1;
+}
 
 // A call by which this thread waits, and may be cancelled, as by the C library's.
 #define WAITS(answer, call) do { \
@@ -71,6 +77,14 @@ SHOWN int sigsuspend(const sigset_t *signals)
     int answer;
     WAITS(answer, mpgc_call_kernel(SYS_rt_sigsuspend, blocked, BYTES));
     return answer;
+}
+
+// The old one, by a name that the header has for X/Open's, which is given one signal and blocks no more than is blocked.
+SHOWN int pause_under(int signals) __asm__("sigpause");
+SHOWN int pause_under(int signals)
+{
+    sigset_t blocked = { { (unsigned)signals } };
+    return sigsuspend(&blocked);
 }
 
 // What a thread was sent by the kernel's other call for it counts as sent by a user, as the C library has it.

@@ -78,6 +78,7 @@ HIDDEN void mpgc_forget_finalizer(uintptr_t base);
 // ../kernel/masks.c, ../kernel/handlers.c, ../kernel/altstack.c and ../kernel/robust.c
 HIDDEN const sigset_t *mpgc_without_faults(const sigset_t *signals, sigset_t *room);
 HIDDEN void mpgc_barrier_stands(const struct sigaction *old);
+HIDDEN void mpgc_stopper_stands(const struct sigaction *old);
 HIDDEN void mpgc_pass_on(int number, siginfo_t *info, void *context);
 HIDDEN void mpgc_drop_signals_stack(void);
 HIDDEN void mpgc_give_up_mutexes(void);

@@ -149,6 +149,42 @@ static int old_names_are_behind_the_barrier(void)
     return 0;
 }
 
+/* System V's later names: by none of them is a fault held, or its handler another one; and they do what they do to other signals. */
+#pragma GCC diagnostic push
+#pragma GCC diagnostic ignored "-Wdeprecated-declarations"
+static int later_names_are_behind_the_barrier(void)
+{
+    begin();
+    if (sighold(SIGSEGV) != 0 || sigset(SIGSEGV, SIG_HOLD) != SIG_DFL || sigset(SIGSEGV, rings_bell) != SIG_DFL) return 1;
+    write_some(0);
+    if (rings != 0 || sigset(SIGSEGV, SIG_HOLD) != rings_bell || sigignore(SIGSEGV) != 0) return 2;
+    write_some(40);
+    if (sigset(SIGSEGV, SIG_DFL) != SIG_IGN || sigset(SIGUSR2, rings_bell) != SIG_DFL || sighold(SIGUSR2) != 0) return 3;
+    raise(SIGUSR2);
+    if (rings != 0 || sigrelse(SIGUSR2) != 0 || rings != 1 || sigset(SIGUSR2, SIG_HOLD) != rings_bell) return 4;
+    raise(SIGUSR2);
+    if (rings != 1 || sigset(SIGUSR2, SIG_IGN) != SIG_HOLD || rings != 1 || sigset(SIGUSR2, SIG_DFL) != SIG_IGN) return 5;
+    if (sighold(0) != -1 || errno != EINVAL || sigset(SIGUSR2, SIG_ERR) != SIG_ERR || sigset(1000, SIG_IGN) != SIG_ERR) return 6;
+    end();
+    return 0;
+}
+#pragma GCC diagnostic pop
+
+/* The oldest name of sigsuspend, which blocks what the first 32 bits say: a handler under it writes. */
+extern int pause_under(int signals) __asm__("sigpause");
+static int writes_under_the_oldest_wait(void)
+{
+    sigset_t one;
+    sigemptyset(&one);
+    sigaddset(&one, SIGUSR1);
+    begin();
+    sigprocmask(SIG_BLOCK, &one, NULL);
+    raise(SIGUSR1);
+    if (pause_under(~(1 << (SIGUSR1 - 1))) != -1 || errno != EINTR || rings != 1) return 1;
+    end();
+    return 0;
+}
+
 /* A timer's handler writes at any moment, also where the collector opens pages. It sets the timer anew, so that the program goes on between
  * two ticks however slow the machine is. */
 static volatile unsigned ticks;
@@ -273,9 +309,25 @@ static int another_one_stops(void)
     return came != TIMES || GC_get_suspend_signal() != SIGRTMIN + 5;
 }
 
+/* And else what it has set on SIGPWR before there were threads is what it is told, and isn't called any more. */
+static int is_told_of_its_own(void)
+{
+    struct sigaction seen;
+    pthread_t thread;
+    signal(SIGPWR, count);
+    GC_INIT();
+    raise(SIGPWR);
+    is_enough = 1;
+    if (pthread_create(&thread, NULL, ask_on, NULL) != 0 || pthread_join(thread, NULL) != 0) return 1;
+    raise(SIGPWR);
+    if (came != 1 || sigaction(SIGPWR, NULL, &seen) != 0 || seen.sa_handler != count) return 2;
+    return signal(SIGPWR, SIG_IGN) != count || signal(SIGPWR, SIG_DFL) != SIG_IGN;
+}
+
 int main(void)
 {
     CHECK(status_of(asks_in_the_first_request) == 0);
+    CHECK(status_of(is_told_of_its_own) == 0);
     CHECK(status_of(another_one_stops) == 0);
     GC_INIT();
     GC_enable_incremental();
@@ -289,6 +341,8 @@ int main(void)
     CHECK(status_of(ends_when_sent) == -1);
     CHECK(status_of(is_handled_when_sent) == 0);
     CHECK(status_of(old_names_are_behind_the_barrier) == 0);
+    CHECK(status_of(later_names_are_behind_the_barrier) == 0);
+    CHECK(status_of(writes_under_the_oldest_wait) == 0);
     CHECK(status_of(ticks_are_harmless) == 0);
     CHECK(status_of(frames_that_went_are_no_stacks) == 0);
     return check_ends();
