@@ -151,6 +151,10 @@ HIDDEN int mpgc_create(pthread_t *thread, const pthread_attr_t *attributes, void
 #undef GC_alloc_unlock
 SHOWN void GC_alloc_lock(void);
 SHOWN void GC_alloc_unlock(void);
+// Memory as of realloc, calloc and free. Meanwhile the lock is lent to who waits for it to write, if this thread has it and is under no call of the core.
+HIDDEN void *mpgc_memory(void *had, size_t bytes);
+HIDDEN void *mpgc_cleared_memory(size_t count, size_t bytes);
+HIDDEN void mpgc_drop_memory(void *had);
 // And let those have it first that wait for it, if for no longer than a moment.
 HIDDEN void mpgc_give_way(void);
 

@@ -1,7 +1,7 @@
 // What the audited files of libmpgc know of each other. x86-64, Linux, the GNU C library. Trusted, and not proved.
 //
 // Below them stands the proved heap of mpheap_c, above them a C program that knows bdwgc's gc.h, and may do what it likes. The proofs hold
-// for the program as far as these files keep what mpheap.h asks of a caller. They alone could lose an object or break memory: 3,788 lines
+// for the program as far as these files keep what mpheap.h asks of a caller. They alone could lose an object or break memory: 3,857 lines
 // of code in this folder, without blank ones and comments. Why names/ and kernel/ can't is said in front.h. This is all that they owe, in
 // the order in which they are best read, and the head of each says by which lines it pays:
 //
@@ -113,6 +113,7 @@ struct layer {
     struct thread first;               // the thread that opened the heap
     struct thread *threads;            // all that are known
     bool is_threaded;                  // there was ever a second one
+    bool forks;                        // pages that are opened are noted, and told when it is over: the child mightn't have all of a telling
     bool are_some_gone;                // threads that ended without a word, and are written down still
 };
 HIDDEN extern struct layer mpgc;
@@ -147,13 +148,16 @@ HIDDEN void mpgc_scan_threads(void (*scan)(const char *from, const char *to), vo
 HIDDEN void mpgc_lock_slowly(void);
 HIDDEN void mpgc_unlock_slowly(void);
 HIDDEN void mpgc_become_threaded(void);
-HIDDEN void mpgc_lock_in_child(void);
+HIDDEN bool mpgc_lock_in_child(void);
 HIDDEN void mpgc_wake_another(void);
 struct loan { bool is_one; sigset_t old; };  // or the lock itself
 HIDDEN void mpgc_lock_to_write(struct loan *loan);
 HIDDEN void mpgc_unlock_to_write(const struct loan *loan);
 HIDDEN void mpgc_lend(void);
 HIDDEN void mpgc_end_loan(void);
+HIDDEN bool mpgc_lend_own(void);
+HIDDEN void mpgc_end_own_loan(const bool *is_one);
+#define LENDING __attribute__((cleanup(mpgc_end_own_loan), unused)) const bool is_own_loan = mpgc_lend_own()
 HIDDEN uint32_t mpgc_my_number(void);
 HIDDEN extern _Thread_local unsigned mpgc_lock_depth __attribute__((tls_model("initial-exec")));
 static inline void mpgc_lock(void)
@@ -336,6 +340,7 @@ HIDDEN void mpgc_open_all(void);
 
 // pins.c
 HIDDEN void mpgc_drop_pins(struct thread *thread);
+HIDDEN void mpgc_keep_own_pins(void);
 
 // signals.c. The C library's sigaction by its other name, since kernel/handlers.c takes that one for the program.
 extern int __sigaction(int number, const struct sigaction *next, struct sigaction *old);

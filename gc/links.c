@@ -12,7 +12,6 @@
 // Nothing is freed while other threads are stopped (table.c).
 // Counted under roots, links, finalizers and kinds.
 #include "layer.h"
-#include <stdlib.h>
 
 // Its number hides the word, whose lowest bit says there whether it is short.
 struct link { struct entry entry; GC_hidden_pointer object; };
@@ -73,14 +72,14 @@ static int set_link(void **word, const void *object, bool is_long)
     if (!mpgc_find((uintptr_t)object, &base, &words)) mpgc_stop("a disappearing link to what isn't an object of the heap");
     mpgc_free_all(&to_free);
     struct entry **at = place_of(word, is_long);
-    struct link *one = *at ? (struct link *)*at : malloc(sizeof *one);
+    struct link *one = *at ? (struct link *)*at : mpgc_memory(NULL, sizeof *one);
     if (!one) return GC_NO_MEMORY;
     one->object = GC_HIDE_POINTER(base);
     mpgc_know_more(base);
     if (*at) return GC_DUPLICATE;
     one->entry.number = GC_HIDE_POINTER(word) - is_long;
     if (mpgc_put(&links, &one->entry)) return GC_SUCCESS;
-    free(one);
+    mpgc_drop_memory(one);
     return GC_NO_MEMORY;
 }
 
@@ -88,7 +87,7 @@ static int remove_link(void **word, bool is_long)
 {
     struct entry **at = place_of(word, is_long);
     if (!*at || (uintptr_t)word % WORD != 0) return 0;
-    free(mpgc_take(&links, at));
+    mpgc_drop_memory(mpgc_take(&links, at));
     return 1;
 }
 

@@ -11,16 +11,20 @@
 //
 // Nobody sleeps without being woken: who sleeps is counted before he marks the word, and who takes it marks it if any are counted.
 //
-// It is lent, while who has it waits to stop the world (world.c), to those that wait for it to write to a closed page, one at a
-// time. For the one that holds up the stop may be among them: he walks over the loaded objects, has their lock, and writes into the
-// heap there; or he is a thread's child by vfork, with its number, and the thread answers when he has gone.
+// It is lent, while who has it waits to stop the world (world.c), or for the C library's memory or its fork, to those that wait for it to write to a
+// closed page, one at a time. For the one that holds him up may be among them: he walks over the loaded objects, has their lock, and writes into
+// the heap there; or he is a thread's child by vfork, with its number, and the thread answers when he has gone; or a handler of the program came
+// in the middle of his call of malloc; or he has a stream's lock, for which another one waits that has the lock of all, as a fork wants it.
 //
 //   - Nothing is lost: it is lent between two pieces of a collection, under no call of the core, and nobody but who borrowed it
-//     touches what it guards until it is back. So the page is told and opened as before the piece, by one who had the lock then.
+//     touches what it guards until it is back. So the page is told and opened as before the piece, by one who had the lock then. Who has
+//     it and comes to take it again, as malloc of the program's own may, ends the loan by that.
 //   - No order of locks makes a ring: who has borrowed it waits for nobody (the core and the kernel tell and open the page), with
-//     signals blocked, so that no handler of the program waits in his place. Who lends it waits for the lock of the loaded objects, or
-//     for threads to answer, and behind that for whoever has borrowed it. (A walk whose function makes a request still waits for the lock
-//     in earnest.)
+//     signals blocked, so that no handler of the program waits in his place. Who lends it waits for the lock of the loaded objects, those of
+//     malloc and of streams, or for threads to answer, and behind that for whoever has borrowed it. (Who makes a request there still waits for
+//     the lock in earnest.)
+//   - A child has all that was written before anything that it has (the kernel makes the copy so). Where somebody had borrowed the lock then, that
+//     stands in its word, and what he may have been in the middle of is known: pages that were noted, and not told (threads.c).
 //   - Nobody sleeps through it: that it is lent, and borrowed, stands in the word. So each change keeps awake who is about to sleep,
 //     and it wakes those that do.
 //
@@ -30,6 +34,7 @@
 #include "layer.h"
 #include <errno.h>
 #include <linux/futex.h>
+#include <stdlib.h>
 #include <sys/syscall.h>
 #include <time.h>
 #include <unistd.h>
@@ -150,15 +155,20 @@ void mpgc_give_way(void)
 }
 
 // Counted under threads.
+static bool is_lent(void) { return word & LENT; }
+
+// A handler that writes, of a thread that has lent it, borrows it as any other one.
 static void take(struct loan *loan)
 {
     for (;;) {
-        if (!is_mine() && !change(0, me)) wait_for_it(loan);
+        bool is_own = is_mine() && !(loan && is_lent());
+        if (!is_own && !change(0, me)) wait_for_it(loan);
         if (loan && loan->is_one) return;
         mpgc_lock_depth++;
-        if (is_mine()) return;
+        if (is_mine()) break;
         mpgc_lock_depth--;
     }
+    if (is_lent()) mpgc_end_loan();
 }
 
 void mpgc_lock_slowly(void) { take(NULL); }
@@ -203,6 +213,35 @@ void mpgc_end_loan(void)
     for (uint32_t seen = word; seen & BORROWED; seen = word) sleep_on(seen);
 }
 
+// The same, if this thread has it and may: in the middle of a call of the core, as for a handler's sake, it may not.
+bool mpgc_lend_own(void)
+{
+    bool may = mpgc.is_threaded && mpgc_lock_depth > 0 && !mpgc.is_calling && !is_lent();
+    if (may) mpgc_lend();
+    return may;
+}
+void mpgc_end_own_loan(const bool *is_one)
+{
+    if (*is_one) mpgc_end_loan();
+}
+
+// Memory of malloc, for whose locks this thread may wait.
+void *mpgc_memory(void *had, size_t bytes)
+{
+    LENDING;
+    return realloc(had, bytes);
+}
+void *mpgc_cleared_memory(size_t count, size_t bytes)
+{
+    LENDING;
+    return calloc(count, bytes);
+}
+void mpgc_drop_memory(void *had)
+{
+    LENDING;
+    free(had);
+}
+
 // Who was woken may be suspended before he has taken it: so another one is woken, once this thread gives it away.
 void mpgc_wake_another(void) { word |= WAITED_FOR; }
 
@@ -215,15 +254,17 @@ void mpgc_become_threaded(void)
     mpgc.is_threaded = true;
 }
 
-// In a child, of which this is the only thread, and had the lock: its number is another one.
-void mpgc_lock_in_child(void)
+// In a child, of which this is the only thread, and had the lock: its number is another one. Answers whether somebody had borrowed it.
+bool mpgc_lock_in_child(void)
 {
+    bool was_borrowed = word & BORROWED;
     me = 0;
     waiting = 0;
     sleeping = 0;
     writing = 0;
     giving = 0;
     if (mpgc.is_threaded) word = mpgc_my_number();
+    return was_borrowed;
 }
 
 void GC_alloc_lock(void) { mpgc_lock(); }

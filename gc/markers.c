@@ -146,6 +146,7 @@ static bool make(unsigned marker)
     pthread_attr_setdetachstate(&attributes, PTHREAD_CREATE_DETACHED);
     pthread_attr_setstacksize(&attributes, STACK_BYTES);
     alive++;
+    LENDING;
     bool is_made = mpgc_next_creator()(&thread, &attributes, serve, (void *)(uintptr_t)which) == 0;
     if (!is_made) alive--;
     pthread_attr_destroy(&attributes);

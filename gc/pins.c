@@ -8,6 +8,7 @@
 // Counted under the rest.
 #include "layer.h"
 #include <errno.h>
+#include <string.h>
 
 static void add_to_pins(const struct pages *pages, int count)
 {
@@ -27,6 +28,16 @@ static void drop_pin(struct thread *thread, size_t number)
 void mpgc_drop_pins(struct thread *thread)
 {
     while (thread->pins > 0) drop_pin(thread, thread->pins - 1);
+}
+
+// In a child, whose other threads aren't there, and one of which may have been in the middle of writing its own down.
+void mpgc_keep_own_pins(void)
+{
+    memset(mpgc.pins, 0, sizeof mpgc.pins);
+    for (struct thread *one = mpgc.threads; one; one = one->next) {
+        if (one != mpgc_self) one->pins = 0;
+        for (size_t k = 0; k < one->pins; k++) add_to_pins(&one->pinned[k].pages, 1);
+    }
 }
 
 static bool is_on_own_stack(const char *frame) { return frame >= mpgc_self->low && frame < mpgc_self->bottom; }

@@ -153,7 +153,7 @@ void mpgc_lower_to(size_t page)
 // While a cycle marks.
 static void tell(size_t page)
 {
-    if (mpgc.is_calling)
+    if (mpgc.is_calling || mpgc.forks)
         note(page);
     else
         tell_now(page);

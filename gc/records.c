@@ -5,7 +5,6 @@
 // until the next collection's end, or until there is no more room. What allocates here runs with no other thread stopped (table.c).
 // Counted under roots, links, finalizers and kinds.
 #include "layer.h"
-#include <stdlib.h>
 #include <sys/mman.h>
 
 enum { GRANULES = PAGE / GRANULE };
@@ -57,7 +56,7 @@ static bool has_room(void)
     if (all->count == all->room && all->gone > all->room / 2) mpgc_keep_records(NULL);
     if (all->count < all->room) return true;
     size_t larger = all->room ? 2 * all->room : 64;
-    struct described *at = realloc(all->at, larger * sizeof *at);
+    struct described *at = mpgc_memory(all->at, larger * sizeof *at);
     if (!at) return false;
     all->at = at;
     all->room = larger;
@@ -73,7 +72,7 @@ static bool has_places(size_t page)
         if (made == MAP_FAILED) return false;
         places = made;
     }
-    if (!places[page]) places[page] = calloc(GRANULES, sizeof **places);
+    if (!places[page]) places[page] = mpgc_cleared_memory(GRANULES, sizeof **places);
     return places[page];
 }
 

@@ -12,7 +12,6 @@
 // Counted under roots, links, finalizers and kinds.
 #include "layer.h"
 #include <link.h>
-#include <stdlib.h>
 #include <sys/syscall.h>
 #include <unistd.h>
 
@@ -296,6 +295,7 @@ void mpgc_find_stack(const char **low, const char **bottom)
     void *from;
     size_t size;
     const char *own = __builtin_thread_pointer();
+    LENDING;
     *low = NULL;
     *bottom = own > (const char *)__builtin_frame_address(0) ? own : __libc_stack_end;
     if (pthread_getattr_np(pthread_self(), &attributes) != 0) return;
@@ -318,7 +318,7 @@ static void add_range(struct ranges *ranges, const char *from, const char *to)
     }
     if (ranges->count == ranges->room) {
         ranges->room = ranges->room ? 2 * ranges->room : 16;
-        ranges->at = realloc(ranges->at, ranges->room * sizeof *ranges->at);
+        ranges->at = mpgc_memory(ranges->at, ranges->room * sizeof *ranges->at);
         if (!ranges->at) mpgc_stop("no memory for another range of roots");
     }
     ranges->at[ranges->count++] = (struct range){ from, to };

@@ -1,7 +1,6 @@
 // Tables of what the layer knows of words and objects, by a number: a hidden address, so that no table keeps anything. Trusted, not proved.
 // Counted under roots, links, finalizers and kinds.
 #include "layer.h"
-#include <stdlib.h>
 
 // Where the entry with this number is named, or would be.
 struct entry **mpgc_place(const struct table *table, uintptr_t number)
@@ -29,7 +28,7 @@ struct entry *mpgc_pop(struct entry **list)
 static void grow(struct table *table)
 {
     struct table larger = { .room = table->room ? 2 * table->room : 64, .count = table->count };
-    larger.chains = calloc(larger.room, sizeof *larger.chains);
+    larger.chains = mpgc_cleared_memory(larger.room, sizeof *larger.chains);
     if (!larger.chains) return;
     for (size_t k = 0; k < table->room; k++) {
         while (table->chains[k]) {
@@ -37,7 +36,7 @@ static void grow(struct table *table)
             mpgc_push(mpgc_place(&larger, one->number), one);
         }
     }
-    free(table->chains);
+    mpgc_drop_memory(table->chains);
     *table = larger;
 }
 
@@ -69,5 +68,5 @@ struct entry *mpgc_take(struct table *table, struct entry **at)
 // is called.
 void mpgc_free_all(struct entry **list)
 {
-    while (*list) free(mpgc_pop(list));
+    while (*list) mpgc_drop_memory(mpgc_pop(list));
 }

@@ -42,7 +42,7 @@ static void unlink_record(struct thread *record)
     while (*at && *at != record) at = &(*at)->next;
     if (*at) *at = record->next;
     mpgc_free_keys(record->late_keys);
-    if (record != &mpgc.first) free(record);
+    if (record != &mpgc.first) mpgc_drop_memory(record);
 }
 
 static struct thread *with_id(struct thread *one, pthread_t id)
@@ -197,6 +197,12 @@ static void say_signals(const pthread_attr_t *attributes, const sigset_t *signal
     if (pthread_attr_setsigmask_np((pthread_attr_t *)(uintptr_t)attributes, signals) != 0) mpgc_stop("the C library refused a thread's signals");
 }
 
+static int make_thread(struct thread *record, const pthread_attr_t *attributes)
+{
+    LENDING;
+    return mpgc_next_creator()(&record->id, attributes, begin, record);
+}
+
 // No handler of the program runs on the new thread before that can be stopped: it might write while the world is. With the lock the thread isn't
 // known by a number before that is here. (Who waits for the lock can be stopped: so signals are blocked behind it.)
 static int create(struct thread *record, pthread_t *thread, const pthread_attr_t *attributes, void *data)
@@ -213,7 +219,7 @@ static int create(struct thread *record, pthread_t *thread, const pthread_attr_t
     sigdelset(&record->signals, mpgc_stopper);
     link_record(record);
     record->data = data;  // not before, when the record is no root and this thread may be stopped
-    int answer = mpgc_next_creator()(&record->id, attributes, begin, record);
+    int answer = make_thread(record, attributes);
     *thread = record->id;
     if (has_own) say_signals(attributes, &own);
     if (answer != 0) unlink_record(record);
@@ -422,14 +428,33 @@ bool mpgc_is_last_thread(void)
 
 // ---- fork ----
 
-static void before_fork(void) { mpgc_lock(); }
-static void in_parent(void) { mpgc_unlock(); }
+// The C library waits for locks of its own before it forks: so the lock is lent to who writes to a closed page and has one of these.
+static void before_fork(void)
+{
+    mpgc_lock();
+    mpgc.forks = true;
+    (void)mpgc_lend_own();
+}
 
-// The others aren't there.
+static void tell_what_was_opened(void)
+{
+    mpgc_end_loan();
+    mpgc.forks = false;
+    if (!mpgc.is_calling) mpgc_tell_noted();
+}
+
+static void in_parent(void)
+{
+    tell_what_was_opened();
+    mpgc_unlock();
+}
+
+// The others aren't there. Who had borrowed the lock may have opened a page that counts as closed, or not have written down all that he has pinned.
 static void in_child(void)
 {
+    bool was_borrowed = mpgc_lock_in_child();
+    if (was_borrowed) mpgc_keep_own_pins();
     struct thread *one = mpgc.threads;
-    mpgc_lock_in_child();
     mpgc_lose_collector();
     mpgc_lose_markers();
     if (mpgc_self) mpgc_self->number = mpgc_my_number();
@@ -438,6 +463,8 @@ static void in_child(void)
         if (one != mpgc_self) unlink_record(one);
         one = next;
     }
+    tell_what_was_opened();
+    if (was_borrowed) mpgc_leave_open();
     mpgc_unlock();
 }
 

@@ -136,7 +136,7 @@ if command -v clang >"$room/said"; then CC=clang build "$room/clang"; else skip 
 # Each function, each place of roots, and what stands round the barrier.
 tests=(functions settings macros inline limits links frees uncollectable pacing wide leaks unmapped finalizers typed kinds asking
     without_memory roots neighbours barrier crowded mapped kernel copies direct aio lookups submitted notices within sleeping sorting signals handlers moments interrupted process shadow threads world loading
-    registering stopping turns goodbyes suspending faulting waiting walking starting locks leaving joining behind together collector marking stacks)
+    registering stopping turns goodbyes suspending faulting waiting walking lending starting locks leaving joining behind together collector marking stacks)
 build_test() { "${c[@]}" "$top/tests/gc/$1.c" "-L$room" -lmpgc "-Wl,-rpath,$room" -pthread -o "$room/$1"; }
 each "is built" build_test "${tests[@]}"
 
@@ -237,7 +237,7 @@ done
 is "a part that is linked with the library is built, and a program that isn't" "" "$(cat "$room/said")"
 counted "plugging" "$room/plugging" "$room/plugged.so"
 [ ! -e "$room/plugged_bdw.so" ] || counted "plugging, over bdwgc" "$room/plugging" "$room/plugged_bdw.so"
-for test in turns goodbyes suspending faulting walking; do counted "$test" "$room/$test"; done
+for test in turns goodbyes suspending faulting walking lending; do counted "$test" "$room/$test"; done
 for setting in FULL GC_ENABLE_INCREMENTAL GC_COLLECTOR_THREAD; do
     counted "behind, $setting" env $setting=1 "$room/behind"
 done
@@ -261,7 +261,7 @@ fi
 # The collector's own thread: what it has to stand, and the tests above that have something to do for it.
 counted collector "$room/collector" 1
 counted "collector, over a core that checks what is owed" env "LD_LIBRARY_PATH=$room/checking" "$room/collector" 1
-for test in turns goodbyes suspending faulting walking; do
+for test in turns goodbyes suspending faulting walking lending; do
     counted "$test, over that core" env "LD_LIBRARY_PATH=$room/checking" "$room/$test"
 done
 counted "world, beside the collector's thread" env GC_COLLECTOR_THREAD=1 "$room/world" "${locals[@]}"

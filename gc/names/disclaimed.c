@@ -2,7 +2,6 @@
 // marked, with all that they lead to, behind links and finalizers, so that no link leads to them; when the others run again the function is
 // called. One that it lets go isn't asked for any more, and goes at the next cycle's end.
 #include "awaited.h"
-#include <stdlib.h>
 
 typedef int (*disclaim)(void *object);
 enum { KINDS = 64 };
@@ -43,11 +42,11 @@ static bool has_room(void)
 {
     if (count < room) return true;
     size_t larger = room ? 2 * room : 64, many = count;
-    struct object *made = realloc(all, larger * sizeof *made);
+    struct object *made = mpgc_memory(all, larger * sizeof *made);
     if (made) all = made;
-    uint32_t *longer = made ? calloc(larger, sizeof *longer) : NULL;
+    uint32_t *longer = made ? mpgc_cleared_memory(larger, sizeof *longer) : NULL;
     if (!longer) return false;
-    free(chains);
+    mpgc_drop_memory(chains);
     chains = longer;
     room = larger;
     for (count = 0; count < many;) put(all[count]);

@@ -7,7 +7,6 @@
 #include "awaited.h"
 #include <stdatomic.h>
 #include <stdio.h>
-#include <stdlib.h>
 
 enum order { NORMAL, IGNORE_SELF, NO_ORDER, UNREACHABLE };
 
@@ -62,7 +61,7 @@ static void put(struct entry *one)
 static bool has_room_to_ask(void)
 {
     if (count < asked_room) return true;
-    struct asked *larger = realloc(asked, (2 * count + 64) * sizeof *asked);
+    struct asked *larger = mpgc_memory(asked, (2 * count + 64) * sizeof *asked);
     if (!larger) return false;
     asked = larger;
     asked_room = 2 * count + 64;

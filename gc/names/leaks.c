@@ -27,7 +27,7 @@ static struct place *take(uintptr_t base)
 }
 
 // An object of the program's is freed.
-void mpgc_forget_place(uintptr_t base) { free(take(base)); }
+void mpgc_forget_place(uintptr_t base) { mpgc_drop_memory(take(base)); }
 
 static void put(struct place *one)
 {
@@ -42,7 +42,7 @@ void *mpgc_note_place(void *object, size_t bytes, va_list where)
     if (!GC_find_leak || !GC_is_heap_ptr(object)) return object;
     struct place *one = malloc(sizeof *one);
     GC_alloc_lock();
-    if (!places) places = calloc(CHAINS, sizeof *places);
+    if (!places) places = mpgc_cleared_memory(CHAINS, sizeof *places);
     mpgc_forget_place((uintptr_t)object);
     mpgc_know_more((uintptr_t)object);
     if (one) *one = (struct place){ .hidden = GC_HIDE_POINTER(object), .file = va_arg(where, const char *), .bytes = bytes };
@@ -91,7 +91,7 @@ void mpgc_tell_leaks(void)
     GC_alloc_lock();
     unsigned many = count;
     for (unsigned k = 0; k < many; k++) found[k] = leaks[k];
-    for (struct place *one; (one = left); free(one)) left = one->next;
+    for (struct place *one; (one = left); mpgc_drop_memory(one)) left = one->next;
     count = 0;
     GC_alloc_unlock();
     if (many > 0) fprintf(stderr, "Found %u leaked objects:\n", many);

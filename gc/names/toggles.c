@@ -3,7 +3,6 @@
 // before its end, since an object may have become one that stays meanwhile.
 #include "awaited.h"
 #include "locked.h"
-#include <stdlib.h>
 
 enum { DROPPED };  // hides no object
 static struct toggled { GC_hidden_pointer hidden; bool is_strong; } *all;
@@ -54,7 +53,7 @@ void mpgc_drop_toggled(void)
 static int add(const void *object, bool is_strong)
 {
     if (count == room) {
-        struct toggled *larger = realloc(all, (2 * room + 16) * sizeof *all);
+        struct toggled *larger = mpgc_memory(all, (2 * room + 16) * sizeof *all);
         if (!larger) return GC_NO_MEMORY;
         all = larger;
         room = 2 * room + 16;

@@ -30,7 +30,7 @@ static bool are_many(void)
 void mpgc_age_free_pages(void)
 {
     size_t page = 0, first, many = 0;
-    if (threshold == 0 || (!ages && !(ages = calloc(MAX_PAGES, 1)))) return;
+    if (threshold == 0 || (!ages && !(ages = mpgc_cleared_memory(MAX_PAGES, 1)))) return;
     bool is_worth_it = are_many();
     while (is_worth_it && (many = mpgc_free_run(page, &first)) > 0) {
         memset(ages + page, 0, first - page);
