@@ -1,6 +1,6 @@
 // The C library's calls that make threads, wait for them and end them, so that a program's threads are known which were made without
-// bdwgc's names for these. Only in libmpgc.so.
-#include "../front.h"
+// bdwgc's names for these; and that by which their keys go. Only in libmpgc.so.
+#include "next.h"
 #include <pthread.h>
 #include <threads.h>
 
@@ -15,6 +15,15 @@ SHOWN int pthread_create(pthread_t *restrict thread, const pthread_attr_t *restr
 SHOWN int pthread_join(pthread_t thread, void **answer) { return GC_pthread_join(thread, answer); }
 SHOWN int pthread_detach(pthread_t thread) { return GC_pthread_detach(thread); }
 SHOWN void pthread_exit(void *answer) { GC_pthread_exit(answer); }
+
+// What is written down of a key (locals.c) would stay a root: nobody asks for it any more.
+SHOWN int pthread_key_delete(pthread_key_t key)
+{
+    NEXT(int, pthread_key_delete, (pthread_key_t));
+    (void)pthread_setspecific(key, NULL);
+    return next(key);
+}
+SHOWN void tss_delete(tss_t key) { (void)pthread_key_delete(key); }
 
 static int said(int status) { return status == 0 ? thrd_success : thrd_error; }
 

@@ -181,6 +181,29 @@ static int told_ones_leave_nothing_behind(void)
     return pthread_key_create(&last_key, NULL) != 0 ? 1 : leave_nothing_behind(set_and_tell);
 }
 
+/* Nor what a thread had by keys that it deletes. */
+static int deleted_keys_keep_nothing(void)
+{
+    enum { MANY = 100, FEW = 10 }; /* some word may still name one */
+    static GC_word hidden[MANY];
+    pthread_key_t keys[MANY];
+    int left = 0;
+    for (int k = 0; k < MANY; k++) {
+        void *object = GC_malloc(16);
+        hidden[k] = GC_HIDE_POINTER(object);
+        GC_general_register_disappearing_link((void **)&hidden[k], object);
+        if (pthread_key_create(&keys[k], NULL) != 0 || pthread_setspecific(keys[k], object) != 0) return 1;
+    }
+    GC_gcollect();
+    for (int k = 0; k < MANY; k++)
+        if (!hidden[k] || pthread_getspecific(keys[k]) != GC_REVEAL_POINTER(hidden[k])) return 2;
+    for (int k = 0; k < MANY; k++)
+        if (pthread_key_delete(keys[k]) != 0) return 3;
+    GC_gcollect();
+    for (int k = 0; k < MANY; k++) left += hidden[k] != 0;
+    return left > FEW ? 4 : 0;
+}
+
 /* A thread that is known from the beginning says that it goes, and goes on for some time: its record is written no more, where nobody will ask
  * what it answers. */
 static _Atomic int stage;
@@ -284,6 +307,7 @@ int main(void)
     CHECK(status_of(leaves_nothing_behind) == 0);
     CHECK(status_of(keys_leave_nothing_behind) == 0);
     CHECK(status_of(told_ones_leave_nothing_behind) == 0);
+    CHECK(status_of(deleted_keys_keep_nothing) == 0);
     CHECK(ends_in_time(last_is_destroyed_late));
     CHECK(ends_in_time(last_is_destroyed_late_beside_the_collector));
     kill(watcher, SIGKILL);
