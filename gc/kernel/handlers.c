@@ -14,10 +14,19 @@ static bool stands;              // the barrier's handler does, in front of it
 // The C library's sigaction by its other name.
 extern int __sigaction(int number, const struct sigaction *next, struct sigaction *old);
 
+// One that is kept. What the C library answers has a longer mask than the kernel's, whose rest is as its stack was: as a root that would keep objects.
+static struct sigaction cleared(const struct sigaction *one)
+{
+    struct sigaction clear = { .sa_flags = one->sa_flags };
+    clear.sa_sigaction = one->sa_sigaction;
+    clear.sa_mask.__val[0] = one->sa_mask.__val[0];
+    return clear;
+}
+
 // From now on. It replaced this one, where that wasn't itself.
 void mpgc_barrier_stands(const struct sigaction *old)
 {
-    if (old) before = *old;
+    if (old) before = cleared(old);
     stands = true;
 }
 
@@ -49,19 +58,20 @@ static bool swap_handler(const struct sigaction *next, struct sigaction *old)
 {
     if (!stands) return false;
     struct sigaction was = before;
-    if (next) before = *next;
+    if (next) before = cleared(next);
     if (old) *old = was;
     return true;
 }
 
 // What the program does on the signal by which threads are stopped: it is given back, and never called while there are threads.
 static struct sigaction kept;
-void mpgc_stopper_stands(const struct sigaction *old) { kept = *old; }
+void mpgc_stopper_stands(const struct sigaction *old) { kept = cleared(old); }
 static bool swap_stopper(const struct sigaction *next, struct sigaction *old)
 {
     if (!mpgc_is_threaded()) return false;
-    if (old) *old = kept;
-    if (next) kept = *next;
+    struct sigaction was = kept;
+    if (next) kept = cleared(next);
+    if (old) *old = was;
     return true;
 }
 

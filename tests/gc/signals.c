@@ -324,10 +324,31 @@ static int is_told_of_its_own(void)
     return signal(SIGPWR, SIG_IGN) != count || signal(SIGPWR, SIG_DFL) != SIG_IGN;
 }
 
+/* What is kept of a handler has no more in its mask than signals: what the C library's stack had there would be a root. */
+static int has_more(const struct sigaction *one)
+{
+    unsigned long more = 0;
+    for (size_t k = 1; k < sizeof one->sa_mask / sizeof *one->sa_mask.__val; k++) more |= one->sa_mask.__val[k];
+    return more != 0;
+}
+static int keeps_masks_alone(void)
+{
+    struct sigaction of_faults, of_stops;
+    GC_INIT();
+    GC_enable_incremental();
+    GC_allow_register_threads();
+    begin();
+    end();
+    if (sigaction(SIGSEGV, NULL, &of_faults) != 0 || sigaction(SIGPWR, NULL, &of_stops) != 0) return 1;
+    if (has_more(&of_faults) || has_more(&of_stops)) return 2;
+    return sigaction(SIGPWR, &(struct sigaction){ .sa_handler = count }, &of_stops) != 0 || of_stops.sa_handler != SIG_DFL;
+}
+
 int main(void)
 {
     CHECK(status_of(asks_in_the_first_request) == 0);
     CHECK(status_of(is_told_of_its_own) == 0);
+    CHECK(status_of(keeps_masks_alone) == 0);
     CHECK(status_of(another_one_stops) == 0);
     GC_INIT();
     GC_enable_incremental();
