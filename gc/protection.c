@@ -11,8 +11,8 @@
 //
 //   A page that is not closed was told, or holds no ordinary object.
 //
-//   - A write to a closed page faults; `mpgc_let_write` tells it and the closed ones beside it (or notes them, under a call of the core),
-//     and only then opens them.
+//   - A write to a closed page faults; `mpgc_let_write` tells it and the closed ones beside it (or notes them, under a call of the core, or
+//     while a thread forks, which has the lock until they are told), and only then opens them.
 //   - `mpheap_begin` cleans every page. Most were closed before it, a few at a time; `mpgc_tell_open` tells the others of ordinary
 //     objects, before the program runs on. So no page is closed in the stop of a beginning.
 //   - `mpheap_retrace_page_beside` cleans the page that it is given and no other. It is given those that `mpgc_close_lowest` has just
