@@ -26,6 +26,7 @@ static bool collect_unless(GC_stop_func stop)
 {
     if (GC_dont_gc || (stop && stop())) return false;
     if (!stop || mpgc_holds_threads_back()) {
+        mpgc_marks_begin();
         mpgc_collect();
         return true;
     }

@@ -11,6 +11,7 @@ HIDDEN unsigned mpgc_lag(void);
 HIDDEN void mpgc_tidied(bool did_some);
 HIDDEN void mpgc_grant(size_t pages);
 HIDDEN bool mpgc_rest(void);
+HIDDEN void mpgc_marks_begin(void);
 
 // collections.c
 HIDDEN bool mpgc_tidy(void);

@@ -4,9 +4,10 @@
 // one will read: twice what is kept of ordinary and described objects, a quarter of the other pointer-free ones, and the roots; before a cycle
 // in small steps no fewer than 16 pages hold. A full collection waits besides until the heap has filled the pages that it may have: where it has
 // grown past them before so much was asked for, it may have a third more, and 16 pages more at least. What the program has freed itself wasn't
-// asked for, but for an eighth. Pages that it asked for beforehand (GC_expand_hp) are filled first, and a cycle in small steps begins when half of
-// those that are left are. As with bdwgc, a collection also comes where links and finalizers have become a third more, since a weak table keeps
-// what is dead until then.
+// asked for, but for an eighth. What it frees while a cycle marks, and more than it asks for meanwhile, counts as freed behind the end, since the
+// cycle has marked it: one that ends in a low would bring others on the way to the next high. Pages that it asked for beforehand (GC_expand_hp)
+// are filled first, and a cycle in small steps begins when half of those that are left are. As with bdwgc, a collection also comes where links
+// and finalizers have become a third more, since a weak table keeps what is dead until then.
 #include "paced.h"
 #include <stdlib.h>
 
@@ -32,6 +33,9 @@ static size_t used_then;              // pages in use behind the last one, swept
 static bool is_ripe;                  // so much was asked for
 static uint64_t unfilled_until;       // words to ask for, before which the pages can't be filled
 static bool is_settled;               // all pages are swept and open
+static uint64_t taken_then;           // words of objects, where the marks of a cycle began
+static uint64_t freed_then;           // and of those that were freed
+static uint64_t freed_early;          // while the last cycle marked, more than were asked for
 static bool is_incremental;
 
 static GC_word rests_until;           // collections were made: before, they are full ones
@@ -100,10 +104,27 @@ static void set_budget_for(size_t used)
     if (allowed < granted) allowed = granted;
 }
 
+// What is freed from now on may be marked before it is freed.
+void mpgc_marks_begin(void)
+{
+    taken_then = mpgc_figures.taken;
+    freed_then = mpgc_figures.freed;
+}
+
+static uint64_t freed_since_then(void)
+{
+    uint64_t freed = mpgc_figures.freed - freed_then, taken = mpgc_figures.taken - taken_then;
+    uint64_t more = freed > taken ? freed - taken : 0;
+    return more < mpgc_figures.marked ? more : mpgc_figures.marked;
+}
+
+static uint64_t freed(void) { return mpgc_figures.freed + freed_early; }
+
 // After a collection. Of a page that isn't swept half counts. What is still to be given out will be asked for from now on.
 void mpgc_set_budget(void)
 {
-    size_t used = used_then = mpgc_used_pages();
+    freed_early = freed_since_then();
+    size_t used = used_then = mpgc_used_pages() + freed_early / (PAGE / WORD);
     left_over = mpgc_words_in_runs();
     set_budget_for(used - mpgc_pending_pages() / 2);
     full = used < allowed ? allowed : used < allowed + allowed / 4 ? used : allowed + allowed / 4;
@@ -111,6 +132,7 @@ void mpgc_set_budget(void)
     if (asked > left_over) mpgc_figures.total += asked - left_over;
     mpgc_figures.since = left_over;
     mpgc_figures.taken = mpgc_figures.freed = 0;
+    mpgc_marks_begin();
     mpgc_figures.next = left_over + BETWEEN_LOOKS;
     mpgc_figures.most_entries = mpgc_figures.entries + (mpgc_figures.entries / 3 > LEAST_ENTRIES ? mpgc_figures.entries / 3 : LEAST_ENTRIES);
     is_ripe = false;
@@ -124,8 +146,8 @@ static uint64_t asked_since(void) { return mpgc_figures.since > left_over ? mpgc
 // asked for: so it is what the others take, which is no less, but no more than was asked for in all.
 static uint64_t left_of(uint64_t older)
 {
-    uint64_t asked = older + asked_since(), taken = older + mpgc_figures.taken, freed = mpgc_figures.freed;
-    uint64_t left = taken > freed ? taken - freed : 0;
+    uint64_t asked = older + asked_since(), taken = older + mpgc_figures.taken;
+    uint64_t left = taken > freed() ? taken - freed() : 0;
     return left < asked ? left : asked;
 }
 
@@ -136,10 +158,10 @@ static uint64_t still_there(void) { return left_of(0); }
 // was freed of older ones, since that is taken off what was asked for.
 static size_t used_before(void)
 {
-    uint64_t taken = mpgc_figures.taken, freed = mpgc_figures.freed;
+    uint64_t taken = mpgc_figures.taken;
     size_t used = mpgc_used_pages(), newer = still_there() / (PAGE / WORD);
-    if (freed <= taken) return used > newer ? used - newer : 0;
-    size_t older = used + (freed - taken) / (PAGE / WORD), most = used > used_then ? used : used_then;
+    if (freed() <= taken) return used > newer ? used - newer : 0;
+    size_t older = used + (freed() - taken) / (PAGE / WORD), most = used > used_then ? used : used_then;
     return older < most ? older : most;
 }
 
@@ -243,7 +265,7 @@ enum due mpgc_due(bool is_asked)
 // So many words have to be asked for before the next collection at least. An object takes no more than twice what it was asked for by.
 static uint64_t words_to_due(void)
 {
-    uint64_t asked = asked_since(), taken = mpgc_figures.taken, enough = budget + mpgc_figures.freed;
+    uint64_t asked = asked_since(), taken = mpgc_figures.taken, enough = budget + freed();
     uint64_t left = asked < budget ? budget - asked : 0, half = taken < enough ? (enough - taken) / 2 : 0;
     return left > half ? left : half;
 }

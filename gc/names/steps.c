@@ -178,7 +178,7 @@ static enum piece piece_after(enum piece piece, uint64_t did, uint64_t *left)
         if (mpgc_open_pages() <= mpgc_pages_of(ORDINARY) / 2 || !mpgc_rest()) return BEGIN;
         mpgc_drop_cycle();
         return NO_PIECE;
-    case BEGIN: begin(); return stop_before(ROOTS);
+    case BEGIN: begin(); mpgc_marks_begin(); return stop_before(ROOTS);
     case ROOTS: marked = 0; has_read_described = false; return stop_before(MARK);
     case MARK: return after_mark(did, left);
     case REREAD: return after_reread(did, left);

@@ -124,10 +124,9 @@ static NOINLINE void by_growth(struct sizes of)
         GC_free(grows);
     }
 }
-/* What is there at once becomes more and more. In small steps a cycle that began at the most may end where all is freed, and others come. */
+/* What is there at once becomes more and more. In small steps a cycle that began at the most may end where all is freed, and brings no other. */
 static NOINLINE void by_more_and_more(struct sizes of)
 {
-    if (GC_is_incremental_mode()) return;
     for (int most = WINDOW / 40; most <= WINDOW; most += most / 50) {
         for (int k = 0; k < most; k++) window[k] = make(of);
         free_all();
