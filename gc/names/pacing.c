@@ -3,11 +3,12 @@
 // bdwgc's pace, by its free space divisor. So many words have to be asked for between two collections as are in proportion to what the next
 // one will read: twice what is kept of ordinary and described objects, a quarter of the other pointer-free ones, and the roots; before a cycle
 // in small steps no fewer than 16 pages hold. A full collection waits besides until the heap has filled the pages that it may have: where it has
-// grown past them before so much was asked for, it may have a third more, and 16 pages more at least. What the program has freed itself wasn't
-// asked for, but for an eighth. What it frees while a cycle marks, and more than it asks for meanwhile, counts as freed behind the end, since the
-// cycle has marked it: one that ends in a low would bring others on the way to the next high. Pages that it asked for beforehand (GC_expand_hp)
-// are filled first, and a cycle in small steps begins when half of those that are left are. As with bdwgc, a collection also comes where links
-// and finalizers have become a third more, since a weak table keeps what is dead until then.
+// grown past them before so much was asked for, it may have a third more, and 16 pages more at least; where it needs less than half of them, each
+// collection takes an eighth of them. What the program has freed itself wasn't asked for, but for an eighth. What it frees while a cycle marks, and
+// more than it asks for meanwhile, counts as freed behind the end, since the cycle has marked it: one that ends in a low would bring others on the
+// way to the next high. Pages that it asked for beforehand (GC_expand_hp) are filled first, and a cycle in small steps begins when half of those
+// that are left are. As with bdwgc, a collection also comes where links and finalizers have become a third more, since a weak table keeps what is
+// dead until then.
 #include "paced.h"
 #include <stdlib.h>
 
@@ -21,12 +22,14 @@ enum {
     LEAST_ENTRIES = 4096, // of tables, by which they may grow between two collections
     EARLY = 2,            // a cycle beside the program begins at this part of a budget, and behind a whole one requests help
     MOST_LAG = 16,
+    SHRINKS = 8,          // a collection takes no more than this part of the pages that the heap may have
 };
 
 static uint64_t budget;               // words to ask for before the next collection
 static uint64_t left_over;            // that stood in runs behind the last one: as many mostly stand there always, so that they bring none
 static uint64_t kept;                 // words of ordinary objects that the last one left, or more
 static size_t allowed;                // pages, which the heap fills before it
+static size_t still_allowed;          // at least so many, since there were not many more before the last one
 static size_t granted;                // at least so many, since the program asked for them
 static size_t full;                   // the same, or as many as it has already
 static size_t used_then;              // pages in use behind the last one, swept or not
@@ -100,7 +103,7 @@ static void set_budget_for(size_t used)
     if (budget > most) budget = most;
     if (budget < LEAST) budget = LEAST;
     size_t enough = 2 * (used + used / divisor() + budget / (PAGE / WORD)) + more_than(0);
-    if (allowed > enough) allowed = enough;
+    if (allowed > enough) allowed = enough > still_allowed ? enough : still_allowed;
     if (allowed < granted) allowed = granted;
 }
 
@@ -126,6 +129,7 @@ void mpgc_set_budget(void)
     freed_early = freed_since_then();
     size_t used = used_then = mpgc_used_pages() + freed_early / (PAGE / WORD);
     left_over = mpgc_words_in_runs();
+    still_allowed = allowed - allowed / SHRINKS;
     set_budget_for(used - mpgc_pending_pages() / 2);
     full = used < allowed ? allowed : used < allowed + allowed / 4 ? used : allowed + allowed / 4;
     uint64_t asked = mpgc_figures.since + mpgc_words_taken_back(true);

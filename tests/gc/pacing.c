@@ -182,7 +182,27 @@ static int none_behind_a_low(void)
     return came == 0 ? 0 : 1;
 }
 
-/* .. and none for what threads that end were given in advance. */
+/* A heap that became small keeps most of its room for a while, so that hardly a collection comes while it grows again: else one comes for each 16 pages.
+ * In small steps cycles begin before the room is filled. */
+static void make_all(void)
+{
+    static const struct sizes of = { 1000, 1000 };
+    for (int k = 0; k < WINDOW; k++) window[k] = make(of);
+}
+static int few_behind_a_low_of_what_is_kept(void)
+{
+    enum { FEW = 40 };
+    GC_INIT();
+    GC_set_free_space_divisor(300);
+    make_all();
+    memset(window, 0, sizeof window);
+    GC_gcollect();
+    GC_word before = count();
+    make_all();
+    return count() - before <= FEW || GC_is_incremental_mode() ? 0 : 1;
+}
+
+/* None comes for what threads that end were given in advance. */
 static void *ask_and_free(void *data)
 {
     for (size_t bytes = 8; bytes <= 2000; bytes += bytes / 2) GC_free(memset(GC_malloc(bytes), 1, bytes));
@@ -219,6 +239,7 @@ int main(void)
 {
     hardly_one_for_all_that_is_freed();
     CHECK(status_of(none_behind_a_low) == 0);
+    CHECK(status_of(few_behind_a_low_of_what_is_kept) == 0);
     CHECK(status_of(none_for_threads) == 0);
     GC_INIT();
     one_for_16_pages(drop, 200);
