@@ -133,10 +133,20 @@ __attribute__((noinline)) static void *allocate_anew(size_t bytes, enum page_kin
     return LIKELY(base != 0) ? (void *)base : mpgc_out_of_memory(bytes);
 }
 
+// Four of the words just below the caller's frame, which a function that isn't as short as a request writes over. A program that copies structs of
+// which it has filled a part puts what it finds there into objects, and what these words named before would be kept by them.
+__attribute__((always_inline)) static inline void clear_below(void)
+{
+    typedef uint64_t pair __attribute__((vector_size(16)));
+    volatile pair below[2];
+    below[0] = below[1] = (pair){ 0, 0 };
+}
+
 // Part of the two requests below, each with its kind.
 __attribute__((always_inline)) static inline void *allocate(size_t bytes, enum page_kind kind)
 {
     struct thread *self = mpgc_self;
+    clear_below();
     if (!LIKELY(self && bytes - 1 < RUN_GRANULES * GRANULE - 1)) return allocate_anew(bytes, kind);
     uint64_t base = next_of(mpgc_run_of(self, (bytes + extra() + GRANULE - 1) / GRANULE, kind));
     return LIKELY(base != 0) ? (void *)base : allocate_anew(bytes, kind);

@@ -163,6 +163,28 @@ static NOINLINE void atomics(void)
     memset(atomic_holders, 0, sizeof atomic_holders);
 }
 
+/* What dead functions left just below is gone behind a request: a program that copies a struct of which it has filled a part puts it into an
+ * object. Answers in how many of four words it is still there. */
+GC_word left_below(GC_word word, void *(*request)(size_t bytes));
+__asm__(".text\n.globl left_below\n.type left_below, @function\nleft_below:\n"
+        "\tpushq %rbx\n\tmovq %rdi, -24(%rsp)\n\tmovq %rdi, -32(%rsp)\n\tmovq %rdi, -40(%rsp)\n\tmovq %rdi, -48(%rsp)\n"
+        "\tnotq %rdi\n\tmovq %rdi, %rbx\n\tmovl $48, %edi\n\tcall *%rsi\n\tnotq %rbx\n\txorl %eax, %eax\n"
+        "\tcmpq %rbx, -24(%rsp)\n\tjne 1f\n\tincl %eax\n1:\tcmpq %rbx, -32(%rsp)\n\tjne 2f\n\tincl %eax\n"
+        "2:\tcmpq %rbx, -40(%rsp)\n\tjne 3f\n\tincl %eax\n3:\tcmpq %rbx, -48(%rsp)\n\tjne 4f\n\tincl %eax\n4:\tpopq %rbx\n\tret\n"
+        ".size left_below, .-left_below\n");
+static void *ask_for_nothing(size_t bytes)
+{
+    (void)bytes;
+    return NULL;
+}
+static NOINLINE void dead_words(void)
+{
+    GC_word left = 0;
+    for (int k = 0; k < 100; k++) left += left_below(MAGIC, GC_malloc) + left_below(MAGIC, GC_malloc_atomic);
+    CHECK(left == 0);
+    CHECK(left_below(MAGIC, ask_for_nothing) == 4);
+}
+
 /* Who clears the table of added ranges waits for one that has the lock, since that one may be adding some. */
 static _Atomic int clears, may_clear, begins, has_cleared;
 static void *clear_roots(void *data)
@@ -198,6 +220,7 @@ int main(void)
     places();
     CHECK(deep(30000) == 30001);
     atomics();
+    dead_words();
     CHECK(deep(100) == 101);
     cleared_by_another();
     return check_ends();
