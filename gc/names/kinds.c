@@ -18,7 +18,6 @@ static void *make_described(size_t elements, size_t bytes, GC_word descriptor, i
     if (is_length && descriptor > 0 && descriptor >= (bytes & ~(WORD - 1))) return GC_malloc(all);
     void *object = GC_malloc_atomic(all);
     if (!GC_is_heap_ptr(object)) return object;
-    memset(object, 0, GC_size(object));
     bool is_read = all > 0 && (!is_length || descriptor > 0);
     return is_read && !mpgc_describe(object, bytes, all, descriptor, kind) ? mpgc_out_of_memory(all) : object;
 }

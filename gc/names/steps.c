@@ -32,7 +32,10 @@ static size_t last_dirty;        // pages, at the end of a batch in the step bef
 static unsigned long faults_before, retraces_before;
 static unsigned batches;
 static bool is_late;             // pages are read again
-static bool has_read_described;  // since the roots were read
+static bool has_read_described;  // since the roots were read, or these led to little when they were
+static bool is_reading;          // described objects
+static bool leads_to_little;     // what was read of them last
+static uint64_t marked_then;     // words in all, before they were read
 static bool is_open;             // cycles begin with open pages
 static uint64_t marked;          // words, since the roots were read
 static uint64_t marked_before;   // in all, before pages are read again
@@ -80,6 +83,7 @@ static void begin(void)
     root_rounds = 0;
     batches = 0;
     left_in_batch = 0;
+    is_reading = leads_to_little = false;
     last_dirty = MAX_PAGES;
     batch = batch / 2 > LEAST ? batch / 2 : LEAST;
 }
@@ -138,20 +142,30 @@ static bool uses_up(uint64_t words, uint64_t *left)
     return *left == 0;
 }
 
+static enum piece begin_reading(void)
+{
+    if (!is_reading) marked_then = mpgc_figures.marked;
+    is_reading = true;
+    return DESCRIBED;
+}
+
 static enum piece after_mark(uint64_t read, uint64_t *left)
 {
     marked += read;
     if (uses_up(read, left)) return NO_PIECE;
-    if (!has_read_described && mpgc_count_described() > 0 && mpgc_is_moment_over()) return DESCRIBED;
+    if (!has_read_described && mpgc_count_described() > 0 && mpgc_is_moment_over()) return begin_reading();
     if (left_in_batch == 0) left_in_batch = next_batch();
     marked_before = mpgc_figures.marked;
     return left_in_batch == 0 ? roots_or_end() : REREAD;
 }
 
-// What they lead to is marked in the next step; or there was nothing more.
+// What they lead to is marked in the next step; or there was nothing more. Where it was little they aren't read again before the cycle's end, which
+// does so: to look at each takes as long as to read it.
 static enum piece after_described(bool is_more)
 {
+    is_reading = is_more;
     has_read_described = !is_more;
+    leads_to_little = mpgc_figures.marked - marked_then <= FEW_WORDS;
     return is_more ? NO_PIECE : MARK;
 }
 
@@ -179,7 +193,7 @@ static enum piece piece_after(enum piece piece, uint64_t did, uint64_t *left)
         mpgc_drop_cycle();
         return NO_PIECE;
     case BEGIN: begin(); mpgc_marks_begin(); return stop_before(ROOTS);
-    case ROOTS: marked = 0; has_read_described = false; return stop_before(MARK);
+    case ROOTS: marked = 0; has_read_described = !is_reading && leads_to_little; return stop_before(MARK);
     case MARK: return after_mark(did, left);
     case REREAD: return after_reread(did, left);
     case DESCRIBED: return after_described(did);
