@@ -285,11 +285,22 @@ void mpgc_tidied(bool did_some)
     if (is_settled && most > mpgc_figures.next) mpgc_figures.next = most;
 }
 
+// What was given back the heap may have no more.
+static void give_back_room(void)
+{
+    GC_alloc_lock();
+    still_allowed = 0;
+    settle();
+    GC_alloc_unlock();
+}
+
 static int collect(GC_stop_func stop, bool unmaps)
 {
     bool answer = mpgc_collect_unless(stop);
-    if (answer) mpgc_unmap(unmaps);
-    return answer;
+    if (!answer) return false;
+    mpgc_unmap(unmaps);
+    if (unmaps || GC_get_force_unmap_on_gcollect()) give_back_room();
+    return true;
 }
 
 void GC_gcollect(void) { (void)collect(mpgc_stop_func(), false); }

@@ -202,6 +202,21 @@ static int few_behind_a_low_of_what_is_kept(void)
     return count() - before <= FEW || GC_is_incremental_mode() ? 0 : 1;
 }
 
+/* .. but not where the program asks for its memory to be given back. bdwgc takes what it gave back again before it collects. */
+#ifndef OTHER
+static int soon_where_memory_was_given_back(void)
+{
+    GC_INIT();
+    GC_set_free_space_divisor(300);
+    make_all();
+    memset(window, 0, sizeof window);
+    GC_gcollect_and_unmap();
+    GC_word before = count();
+    drop(4 * MEGABYTE);
+    return count() - before >= 4 ? 0 : 1;
+}
+#endif
+
 /* None comes for what threads that end were given in advance. */
 static void *ask_and_free(void *data)
 {
@@ -240,6 +255,9 @@ int main(void)
     hardly_one_for_all_that_is_freed();
     CHECK(status_of(none_behind_a_low) == 0);
     CHECK(status_of(few_behind_a_low_of_what_is_kept) == 0);
+#ifndef OTHER
+    CHECK(status_of(soon_where_memory_was_given_back) == 0);
+#endif
     CHECK(status_of(none_for_threads) == 0);
     GC_INIT();
     one_for_16_pages(drop, 200);
