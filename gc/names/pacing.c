@@ -36,7 +36,8 @@ static size_t used_then;              // pages in use behind the last one, swept
 static bool is_ripe;                  // so much was asked for
 static uint64_t unfilled_until;       // words to ask for, before which the pages can't be filled
 static bool is_settled;               // all pages are swept and open
-static uint64_t taken_then;           // words of objects, where the marks of a cycle began
+static bool has_begun;                // the marks of a cycle
+static uint64_t taken_then;           // words of objects, where they did
 static uint64_t freed_then;           // and of those that were freed
 static uint64_t freed_early;          // while the last cycle marked, more than were asked for
 static bool is_incremental;
@@ -110,6 +111,7 @@ static void set_budget_for(size_t used)
 // What is freed from now on may be marked before it is freed.
 void mpgc_marks_begin(void)
 {
+    has_begun = true;
     taken_then = mpgc_figures.taken;
     freed_then = mpgc_figures.freed;
 }
@@ -126,7 +128,8 @@ static uint64_t freed(void) { return mpgc_figures.freed + freed_early; }
 // After a collection. Of a page that isn't swept half counts. What is still to be given out will be asked for from now on.
 void mpgc_set_budget(void)
 {
-    freed_early = freed_since_then();
+    freed_early = has_begun ? freed_since_then() : 0;
+    has_begun = false;
     size_t used = used_then = mpgc_used_pages() + freed_early / (PAGE / WORD);
     left_over = mpgc_words_in_runs();
     still_allowed = allowed - allowed / SHRINKS;
@@ -136,7 +139,6 @@ void mpgc_set_budget(void)
     if (asked > left_over) mpgc_figures.total += asked - left_over;
     mpgc_figures.since = left_over;
     mpgc_figures.taken = mpgc_figures.freed = 0;
-    mpgc_marks_begin();
     mpgc_figures.next = left_over + BETWEEN_LOOKS;
     mpgc_figures.most_entries = mpgc_figures.entries + (mpgc_figures.entries / 3 > LEAST_ENTRIES ? mpgc_figures.entries / 3 : LEAST_ENTRIES);
     is_ripe = false;
