@@ -9,18 +9,18 @@
 
 static size_t count[4];  // of pages of each kind, but fresh ones
 
-// Objects of this kind came to lie on the page, or none do.
+// Objects of this kind came to lie on the page, or none do. It is one call: a handler that makes requests would be given others that lie there,
+// and write to them before the page is told.
 static void learn_page(size_t page, enum page_kind kind)
 {
-    enum page_kind old = mpgc.kind[page];
-    if (kind == old) return;
-    mpgc.kind[page] = (uint8_t)kind;
-    count[old]--;
+    if (kind == mpgc.kind[page]) return;
+    mpgc_inner_call_begins();
+    count[mpgc.kind[page]]--;
     count[kind]++;
-    if (kind == POINTER_FREE)
-        mpgc_holds_pointer_free(page);
-    else if (kind == ORDINARY && mpgc.is_marking)
-        mpgc_holds_ordinary(page);
+    mpgc.kind[page] = (uint8_t)kind;
+    if (kind == ORDINARY && mpgc.is_marking) mpgc_holds_ordinary(page);
+    mpgc_inner_call_ends();
+    if (kind == POINTER_FREE) mpgc_holds_pointer_free(page);
 }
 
 // An object was allocated. Answers false, and has learnt nothing, if it lies past what the heap may use.

@@ -1,6 +1,6 @@
-/* A signal comes between any two instructions of a call by which the kernel writes into an ordinary object, or of a request that opens pages. At
- * each of these moments, in a child of its own, its handler makes steps of a cycle, or jumps away: what is written there stays, and what was
- * jumped out of holds nobody up. */
+/* A signal comes between any two instructions of a call by which the kernel writes into an ordinary object, of a request that opens pages, or of
+ * what changes what is known of objects. At each of these moments, in a child of its own, its handler makes steps of a cycle, collects, or jumps
+ * away: what is written there stays, what is known of others too, and what was jumped out of holds nobody up. */
 #define _GNU_SOURCE
 #include <pthread.h>
 #include <setjmp.h>
@@ -13,7 +13,7 @@
 #include "check.h"
 #include "traps.h"
 
-enum { COUNT = 64, PLACES = 3, IS_STOPPED = 70, IS_SHORT, IS_LOST, HAS_NO_THREAD };
+enum { COUNT = 64, PLACES = 3, IS_STOPPED = 70, IS_SHORT, IS_LOST, HAS_NO_THREAD, SAYS_SOMETHING_ELSE };
 
 /* Their places stand in a file alone, until they are read. */
 static int file;
@@ -30,11 +30,7 @@ static void on_signal(int number)
     (void)number;
     handle();
 }
-static void on_stop(const char *sentence)
-{
-    (void)sentence;
-    _exit(IS_STOPPED);
-}
+static void on_stop(const char *sentence) { _exit(strstr(sentence, "a call was made under another one") ? IS_STOPPED : SAYS_SOMETHING_ELSE); }
 
 /* By the kernel itself: the C library's call would be one of those that are walked through. */
 static int status_of_child(pid_t child)
@@ -233,6 +229,27 @@ static void cycles_end(void)
     GC_enable();
 }
 
+/* A page comes to hold ordinary objects while a cycle marks. The handler is given others that lie there, writes to them, and ends the cycle. */
+static void **others[COUNT];
+static void write_to_others(void)
+{
+    for (int k = 0; k < COUNT; k++) *(others[k] = GC_malloc(1000)) = GC_REVEAL_POINTER(hidden[k]);
+    GC_enable();
+    if (count_kept() != COUNT) _exit(IS_LOST);
+}
+static void pages_are_learnt(void)
+{
+    begin(1);
+    make_step();
+    handle = write_to_others;
+    GC_disable();
+    trap();
+    asked_for = GC_malloc(1000);
+    trap_no_more();
+    if (getpid() != self) _exit(0);
+    GC_enable();
+}
+
 /* Each moment of it. */
 static int walk(void (*way)(void), int may_stop)
 {
@@ -253,6 +270,7 @@ int main(void)
     GC_enable_incremental();
     sigaction(SIGTRAP, &traps, NULL);
     sigaction(SIGUSR1, &signals, NULL);
+    CHECK(walk(pages_are_learnt, 1)); /* the first one, since no page has held objects yet */
     CHECK(walk(steps_come, 0));
     if (failed == 0) CHECK(walk(jumps_come, 0));
     CHECK(walk(cycles_begin, 1));
