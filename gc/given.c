@@ -3,8 +3,8 @@
 // What it owes the core, of mpheap.h:
 //
 //   "the memory of a mapped heap's free pages may be     of what mpheap_free_run answers, under the lock, so that nothing comes to lie
-//   given back to the system"                            there meanwhile; no further than the run goes. Which of them, and when, is said
-//                                                        in names/unmap.c
+//   given back to the system"                            there meanwhile, and no handler comes between; no further than the run goes.
+//                                                        Which of them, and when, is said in names/unmap.c
 //   kinds are as the page's                              mpgc_learn, for each page
 // Counted under sizes and memory.
 #include "layer.h"
@@ -25,7 +25,9 @@ size_t mpgc_free_run(size_t from, size_t *first)
 void mpgc_give_back(size_t from, size_t to)
 {
     size_t first, pages;
+    sigset_t old;
     mpgc_lock();
+    mpgc_block_signals(&old);
     while (from < to && (pages = mpgc_free_run(from, &first)) > 0 && first < to) {
         from = first + pages;
         if (from > to) from = to;
@@ -33,5 +35,6 @@ void mpgc_give_back(size_t from, size_t to)
         if (madvise((void *)(FIRST + first * PAGE), bytes, MADV_DONTNEED) == 0)
             (void)mpgc_learn(FIRST + first * PAGE, bytes / WORD, GIVEN_BACK);
     }
+    mpgc_restore_signals(&old);
     mpgc_unlock();
 }

@@ -2,8 +2,11 @@
  * -DOTHER; what is said of libmpgc alone is left out then. */
 #define _GNU_SOURCE
 #include <stdbool.h>
+#include <signal.h>
 #include <stdint.h>
+#include <sys/mman.h>
 #include <sys/resource.h>
+#include <sys/syscall.h>
 #include <unistd.h>
 #include "gc.h"
 #include "check.h"
@@ -186,6 +189,36 @@ static void between_requests(void)
     GC_set_on_collection_event(NULL);
 }
 
+/* A signal comes just before the system is told which pages go: what its handler is given there stays as it is. */
+enum { GIVEN = COUNT / 4 };
+static uint64_t *given[GIVEN];
+static volatile sig_atomic_t comes;
+int madvise(void *at, size_t bytes, int advice)
+{
+    if (comes) raise(SIGUSR1);
+    return (int)syscall(SYS_madvise, at, bytes, advice);
+}
+static void be_given(int number)
+{
+    (void)number;
+    if (!comes) return;
+    comes = 0;
+    for (uint64_t k = 0; k < GIVEN; k++) fill(given[k] = GC_malloc(EACH), k);
+}
+static void handler_comes(void)
+{
+    int are_filled = 1;
+    make_all();
+    drop_most();
+    clear_stack();
+    signal(SIGUSR1, be_given);
+    comes = 1;
+    GC_gcollect_and_unmap();
+    CHECK(!comes && GC_get_unmapped_bytes() > 10 * MEGABYTE);
+    for (uint64_t k = 0; k < GIVEN; k++) are_filled &= is_filled(given[k], k);
+    CHECK(are_filled && are_there());
+}
+
 /* Never, where it is so wanted. */
 static void start(void);
 static int never(void)
@@ -219,6 +252,7 @@ IN_CHILD(by_force)
 IN_CHILD(used_again)
 #ifndef OTHER
 IN_CHILD(between_requests)
+IN_CHILD(handler_comes)
 #endif
 
 int main(void)
@@ -229,6 +263,7 @@ int main(void)
     CHECK(status_of(used_again_in_child) == 0);
 #ifndef OTHER
     CHECK(status_of(between_requests_in_child) == 0);
+    CHECK(status_of(handler_comes_in_child) == 0);
     CHECK(status_of(never) == 0);
 #endif
     return check_ends();
