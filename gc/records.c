@@ -50,7 +50,7 @@ void mpgc_keep_records(bool (*stays)(const struct described *one))
     all->gone = 0;
 }
 
-static bool has_room(void)
+static bool makes_room(void)
 {
     struct records *all = &mpgc_records;
     if (all->count == all->room && all->gone > all->room / 2) mpgc_keep_records(NULL);
@@ -64,7 +64,7 @@ static bool has_room(void)
 }
 
 // The page has places for its granules, and keeps them from then on. The pages' own are addresses that take no memory before they are used.
-static bool has_places(size_t page)
+static bool makes_places(size_t page)
 {
     int flags = MAP_PRIVATE | MAP_ANONYMOUS | MAP_NORESERVE;
     if (!places) {
@@ -76,14 +76,31 @@ static bool has_places(size_t page)
     return places[page];
 }
 
-// It stands at its granule. Answers false, and adds nothing, where there is no memory.
+// No handler of the program comes between: one that collects would read and move what is made.
+static bool has_room_on(size_t page)
+{
+    sigset_t old;
+    if (mpgc_records.count < mpgc_records.room && mpgc_has_described(page)) return true;
+    mpgc_block_signals(&old);
+    bool answer = makes_places(page) && makes_room();
+    mpgc_restore_signals(&old);
+    return answer;
+}
+
+// It stands at its granule. Answers false, and adds nothing, where there is no memory. To add it is one call, since signals aren't blocked: a handler
+// that came before may have taken the room.
 bool mpgc_add_record(const struct described *one)
 {
     struct records *all = &mpgc_records;
-    if (!has_places((one->granule - 1) / GRANULES) || !has_room()) return false;
-    all->at[all->count] = *one;
-    put(all->count++);
-    return true;
+    bool fits = false;
+    while (!fits && has_room_on((one->granule - 1) / GRANULES)) {
+        mpgc_inner_call_begins();
+        fits = all->count < all->room;
+        if (fits) all->at[all->count] = *one;
+        if (fits) put(all->count++);
+        mpgc_inner_call_ends();
+    }
+    return fits;
 }
 
 void mpgc_drop_record(struct described *one)

@@ -191,6 +191,15 @@ void *GC_malloc_uncollectable(size_t bytes) { return keep(GC_malloc(bytes)); }
 
 void *GC_malloc_atomic_uncollectable(size_t bytes) { return keep(GC_malloc_atomic(bytes)); }
 
+// It is one call: a handler that collected meanwhile would move what is known of other objects.
+static void forget(uintptr_t base)
+{
+    mpgc_inner_call_begins();
+    mpgc_forget_finalizer(base);
+    mpgc_forget_described(base);
+    mpgc_inner_call_ends();
+}
+
 // Freed last: from then on a signal's handler may be given what lies there, and what is known of it is of the new object. Where the page has
 // no object of which more is known, nothing is to be forgotten.
 __attribute__((noinline)) static void free_by_core(uint64_t base)
@@ -199,10 +208,7 @@ __attribute__((noinline)) static void free_by_core(uint64_t base)
     mpgc_lock();
     if (mpgc_is_in_run(base)) mpgc_stop("GC_free of what was freed before");
     size_t words = mpgc_words_of(base);
-    if (mpgc_is_inside(base) && mpgc.has_more[mpgc_page_of(base)]) {
-        mpgc_forget_finalizer(base);
-        mpgc_forget_described(base);
-    }
+    if (mpgc_is_inside(base) && mpgc.has_more[mpgc_page_of(base)]) forget(base);
     mpgc_figures.freed += words;
     if (mpgc_is_uncollectable(base)) mpgc_set_uncollectable(base, false);
     mpgc_free_in(base);
@@ -216,14 +222,24 @@ void GC_free(void *object)
 
 enum { NO_KIND = -1 };
 
+// The kind of the program's own, if it has one. This too is one call.
+static int kind_of(uintptr_t base)
+{
+    if (!mpgc.has_more[mpgc_page_of(base)]) return NO_KIND;
+    mpgc_call_begins();
+    int kind = mpgc_described_kind(base);
+    if (kind == NO_KIND) kind = mpgc_disclaimed_kind(base);
+    mpgc_call_ends();
+    return kind;
+}
+
 // Another object of the old one's kind. One of a kind that the program made is asked for where such kinds are known; and to read every word of
 // one that was typed loses nothing.
 static void *alike(const void *old, size_t bytes)
 {
-    int kind = mpgc_described_kind((uintptr_t)old);
+    int kind = kind_of((uintptr_t)old);
     uintptr_t base;
     size_t words;
-    if (kind == NO_KIND) kind = mpgc_disclaimed_kind((uintptr_t)old);
     if (kind < 0) return kind == NO_KIND && mpgc_kind_at((uintptr_t)old) != ORDINARY ? GC_malloc_atomic(bytes) : GC_malloc(bytes);
     void *object = mpgc_malloc_kind(bytes, kind);
     bool has_room = mpgc_find((uintptr_t)object, &base, &words) && base == (uintptr_t)object && words * WORD >= bytes;
@@ -242,10 +258,7 @@ static void *move(void *old, size_t old_bytes, size_t bytes)
     return object;
 }
 
-static bool is_read(uintptr_t base)
-{
-    return mpgc_kind_at(base) == ORDINARY || (mpgc.has_more[mpgc_page_of(base)] && mpgc_described_kind(base) != NO_KIND);
-}
+static bool is_read(uintptr_t base) { return mpgc_kind_at(base) == ORDINARY || kind_of(base) != NO_KIND; }
 
 // All bytes past those asked for are 0 in an object that is read, so that what grows in place is 0.
 void *GC_realloc(void *old, size_t bytes)

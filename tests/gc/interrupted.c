@@ -10,6 +10,8 @@
 #include <sys/syscall.h>
 #include <ucontext.h>
 #include "gc.h"
+#include <gc/gc_mark.h>
+#include <gc/gc_typed.h>
 #include "check.h"
 #include "traps.h"
 
@@ -250,6 +252,72 @@ static void pages_are_learnt(void)
     GC_enable();
 }
 
+/* What is known of objects, in the order in which it is: the first one goes in the handler's collection, so that the others move; the second one is
+ * worked on; and the second, or the last, leads to something. */
+struct known { GC_word number; void *strong; };
+static struct known *volatile first, *volatile second, *volatile last;
+static GC_hidden_pointer leaf;
+static int kinds[2];
+static void drop_first(void)
+{
+    first = NULL;
+    wipe();
+    GC_gcollect();
+}
+__attribute__((noinline)) static void make_known(int leads)
+{
+    for (int k = 0; kinds[1] == 0; k++) kinds[k] = (int)GC_new_kind(GC_new_free_list(), (GC_word)1 << (62 - k) | GC_DS_BITMAP, 0, 1);
+    first = GC_generic_malloc(40, kinds[1]);
+    second = GC_generic_malloc(40, kinds[0]);
+    last = GC_generic_malloc(40, kinds[leads != 2]);
+    struct known *one = leads == 2 ? last : second;
+    one->strong = GC_malloc_atomic(40);
+    leaf = GC_HIDE_POINTER(one->strong);
+}
+static void begin_known(int leads)
+{
+    wipe();
+    GC_gcollect();
+    make_known(leads);
+    handle = drop_first;
+}
+static void end_known(struct known *volatile *one)
+{
+    if (getpid() == self) return;
+    for (int k = 0; k < 2; k++) {
+        wipe();
+        GC_gcollect();
+    }
+    _exit((*one)->strong == GC_REVEAL_POINTER(leaf) && GC_base((*one)->strong) == (*one)->strong ? 0 : IS_LOST);
+}
+static void described_ones_are_freed(void)
+{
+    begin_known(2);
+    trap();
+    GC_free(second);
+    trap_no_more();
+    second = NULL;
+    end_known(&last);
+}
+static void described_ones_grow(void)
+{
+    begin_known(1);
+    trap();
+    second = GC_realloc(second, 200);
+    trap_no_more();
+    end_known(&second);
+}
+static void described_ones_are_made(void)
+{
+    begin_known(2);
+    trap();
+    second = GC_generic_malloc(40, kinds[0]);
+    trap_no_more();
+    second->strong = last->strong;
+    last = NULL;
+    end_known(&second);
+}
+
 /* Each moment of it. */
 static int walk(void (*way)(void), int may_stop)
 {
@@ -275,5 +343,8 @@ int main(void)
     if (failed == 0) CHECK(walk(jumps_come, 0));
     CHECK(walk(cycles_begin, 1));
     CHECK(walk(cycles_end, 1));
+    CHECK(walk(described_ones_are_freed, 1));
+    CHECK(walk(described_ones_grow, 1));
+    CHECK(walk(described_ones_are_made, 1));
     return check_ends();
 }
