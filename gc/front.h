@@ -68,6 +68,10 @@ HIDDEN long mpgc_call_with(long number, long first, long second, long third, lon
     mpgc_call_with(number, (long)(first), (long)(second), (long)(third), (long)(fourth), (long)(fifth), (long)(sixth))
 #define mpgc_call_kernel(...) WITH_WORDS(__VA_ARGS__, 0, 0, 0, 0, 0, 0, 0)
 
+// signals.c. No handler of the program comes between these two.
+HIDDEN void mpgc_block_signals(sigset_t *old);
+HIDDEN void mpgc_restore_signals(const sigset_t *old);
+
 // world.c. The signal by which threads are stopped: SIGPWR, or that which the program names first.
 HIDDEN extern int mpgc_stopper;
 

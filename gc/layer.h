@@ -345,9 +345,7 @@ HIDDEN void mpgc_keep_own_pins(void);
 // signals.c. The C library's sigaction by its other name, since kernel/handlers.c takes that one for the program.
 extern int __sigaction(int number, const struct sigaction *next, struct sigaction *old);
 HIDDEN void mpgc_take_faults(void);
-HIDDEN void mpgc_block_signals(sigset_t *old);
 HIDDEN void mpgc_block_handlers(sigset_t *old);
-HIDDEN void mpgc_restore_signals(const sigset_t *old);
 
 // Counted under marking side by side.
 // markers.c and rounds.c. Workers have numbers: the first marker, the thread that collects, and the other markers.

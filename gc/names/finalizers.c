@@ -19,7 +19,8 @@ struct entry {
     GC_finalization_proc function;
     enum order order;
 };
-static struct all { struct entry **chains, *ready, **ready_end; } *all;
+// Of those that are ready the first was taken, and its place is left alone, so that who takes the next one touches none that others come behind.
+static struct all { struct entry **chains, *ready, *last; } *all;
 
 static size_t count, room;
 static atomic_size_t ready_count;  // which is looked at without the lock
@@ -71,8 +72,9 @@ static bool has_room_to_ask(void)
 static bool is_started(void)
 {
     if (!all) all = GC_malloc_uncollectable(sizeof *all);
-    if (all && !all->ready_end) all->ready_end = &all->ready;
-    return all != NULL;
+    struct entry *first = all && !all->last ? GC_malloc(sizeof *first) : NULL;
+    if (first && !all->last) all->ready = all->last = first;
+    return all && all->last;
 }
 
 // Room for one more. A request may collect, so the table is whole before it.
@@ -164,8 +166,8 @@ static void add_ready(struct entry *one)
 {
     one->object = (void *)object_of(one);
     one->next = NULL;
-    *all->ready_end = one;
-    all->ready_end = &one->next;
+    all->last->next = one;
+    all->last = one;
     ready_count++;
     count--;
 }
@@ -198,13 +200,21 @@ void mpgc_forget_finalizer(uintptr_t base)
 
 // ---- Calling them ----
 
-static struct entry *take_ready(void)
+// A handler that comes between may take some too, and one that collects puts others behind the last.
+static bool take_ready(struct entry *taken)
 {
-    if (ready_count == 0) return NULL;
-    struct entry *one = take(&all->ready);
-    if (!all->ready) all->ready_end = &all->ready;
+    struct entry *before, *one = NULL;
+    if (ready_count == 0) return false;
+    do {
+        before = __atomic_load_n(&all->ready, __ATOMIC_RELAXED);
+        one = __atomic_load_n(&before->next, __ATOMIC_RELAXED);
+        if (!one) return false;
+    } while (!__atomic_compare_exchange_n(&all->ready, &before, one, false, __ATOMIC_RELAXED, __ATOMIC_RELAXED));
+    *taken = *one;
+    before->next = NULL;  // else who names it would keep all that come
+    one->object = one->data = NULL;
     ready_count--;
-    return one;
+    return true;
 }
 
 int GC_should_invoke_finalizers(void) { return ready_count > 0; }
@@ -212,11 +222,13 @@ int GC_should_invoke_finalizers(void) { return ready_count > 0; }
 int GC_invoke_finalizers(void)
 {
     for (int invoked = 0;; invoked++) {
+        struct entry one;
         GC_alloc_lock();
-        struct entry *volatile one = take_ready();
+        bool is_one = take_ready(&one);
         GC_alloc_unlock();
-        if (!one) return invoked;
-        one->function(one->object, one->data);
+        if (!is_one) return invoked;
+        one.function(one.object, one.data);
+        __asm__ volatile("" : : "r"(&one) : "memory");  // what it names stays until then
     }
 }
 
@@ -265,11 +277,14 @@ void mpgc_tell_ready(void)
 
 void GC_finalize_all(void)
 {
+    sigset_t old;
     GC_init();
     do {
         GC_alloc_lock();
+        mpgc_block_signals(&old);
         for (size_t k = 0; k < room; k++)
             while (all->chains[k]) add_ready(take(&all->chains[k]));
+        mpgc_restore_signals(&old);
         GC_alloc_unlock();
     } while (GC_invoke_finalizers() > 0);
 }

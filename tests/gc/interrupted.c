@@ -318,6 +318,38 @@ static void described_ones_are_made(void)
     end_known(&second);
 }
 
+/* Finalizers are called, and another object becomes ready, whose finalizer the handler calls: each once. */
+static int called[2];
+static void call(void *object, void *number)
+{
+    (void)object;
+    called[(GC_word)number]++;
+}
+__attribute__((noinline)) static void make_finalized(void)
+{
+    GC_register_finalizer(GC_malloc(40), call, NULL, NULL, NULL);
+    GC_register_finalizer(first = GC_malloc(40), call, (void *)1, NULL, NULL);
+}
+static void drop_and_call(void)
+{
+    drop_first();
+    GC_invoke_finalizers();
+}
+static void finalizers_are_called(void)
+{
+    called[0] = called[1] = 0;
+    GC_set_finalize_on_demand(1);
+    make_finalized();
+    wipe();
+    GC_gcollect();
+    handle = drop_and_call;
+    trap();
+    GC_invoke_finalizers();
+    trap_no_more();
+    for (int k = 0; k < 3; k++) drop_and_call();
+    if (getpid() != self) _exit(called[0] == 1 && called[1] == 1 ? 0 : IS_LOST);
+}
+
 /* Each moment of it. */
 static int walk(void (*way)(void), int may_stop)
 {
@@ -346,5 +378,6 @@ int main(void)
     CHECK(walk(described_ones_are_freed, 1));
     CHECK(walk(described_ones_grow, 1));
     CHECK(walk(described_ones_are_made, 1));
+    CHECK(walk(finalizers_are_called, 1));
     return check_ends();
 }
