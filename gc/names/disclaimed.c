@@ -53,13 +53,16 @@ static bool has_room(void)
     return true;
 }
 
-// An object of this kind was made.
+// An object of this kind was made. A handler that collected meanwhile would have others go.
 void *mpgc_note_disclaimed(void *object, int kind)
 {
+    sigset_t old;
     if (!GC_is_heap_ptr(object) || kind < 0 || kind >= KINDS || !of_kind[kind] || GC_find_leak) return object;
     GC_alloc_lock();
+    mpgc_block_signals(&old);
     mpgc_know_more((uintptr_t)object);
     if (has_room()) put((struct object){ GC_HIDE_POINTER(object), kind, false, 0 });
+    mpgc_restore_signals(&old);
     GC_alloc_unlock();
     return object;
 }
@@ -97,22 +100,35 @@ void mpgc_forget_disclaimed(uintptr_t base)
     if (number != 0) drop(number - 1);
 }
 
-// The cycle has ended, other threads run, and the lock is held. The function may make objects, and the table move; or collect, so that others
-// are asked meanwhile and go, and this one, which isn't asked again, stands elsewhere.
+// Asks the function of its kind, under the signals of the program.
+static bool is_let_go(const struct object *one, sigset_t *signals)
+{
+    void *volatile object = GC_REVEAL_POINTER(one->hidden);
+    mpgc_restore_signals(signals);
+    bool answer = of_kind[one->kind](object) == 0;
+    mpgc_block_signals(signals);
+    return answer;
+}
+
+// The cycle has ended, other threads run, and the lock is held. The function, or a handler under it, may make objects, and the table move; or collect,
+// so that others are asked meanwhile and go, and this one, which isn't asked again, stands elsewhere.
 void mpgc_call_disclaimed(void)
 {
+    sigset_t old;
+    if (count == 0) return;
+    mpgc_block_signals(&old);
     for (size_t k = 0; k < count;) {
         const struct object one = all[k];
-        void *volatile object = GC_REVEAL_POINTER(one.hidden);
         all[k].is_asked = false;
-        bool goes = one.is_asked && of_kind[one.kind](object) == 0;
+        bool goes = one.is_asked && is_let_go(&one, &old);
         if (!goes)
             k++;
         else if (k < count && all[k].hidden == one.hidden)
             drop(k);
         else
-            mpgc_forget_disclaimed((uintptr_t)object);
+            mpgc_forget_disclaimed(~one.hidden);
     }
+    mpgc_restore_signals(&old);
 }
 
 SHOWN void GC_register_disclaim_proc(int kind, disclaim function, int marks_from_all);

@@ -10,6 +10,7 @@
 #include <sys/syscall.h>
 #include <ucontext.h>
 #include "gc.h"
+#include <gc/gc_disclaim.h>
 #include <gc/gc_mark.h>
 #include <gc/gc_typed.h>
 #include "check.h"
@@ -350,6 +351,69 @@ static void finalizers_are_called(void)
     if (getpid() != self) _exit(called[0] == 1 && called[1] == 1 ? 0 : IS_LOST);
 }
 
+/* Objects are asked before they go: the last one is freed, or the first ones go, while the handler collects. Each is asked once, but that which was
+ * freed. */
+enum { ASKED = 6 };
+static int times[ASKED], kind_of_asked, traps_when_asked;
+static GC_word *volatile asked[ASKED];
+static int is_asked(void *object)
+{
+    GC_word number = *(GC_word *)object;
+    int traps = traps_when_asked;
+    traps_when_asked = 0;
+    if (traps) trap();
+    if (number > 0) times[number - 1]++;
+    return 0;
+}
+static void drop_some(void)
+{
+    asked[3] = NULL;
+    first = NULL;
+    wipe();
+    GC_gcollect();
+}
+__attribute__((noinline)) static void make_asked(void)
+{
+    if (kind_of_asked == 0) kind_of_asked = (int)GC_new_kind(GC_new_free_list(), 0, 1, 1);
+    GC_register_disclaim_proc(kind_of_asked, is_asked, 0);
+    for (GC_word k = 0; k < ASKED; k++) *(asked[k] = GC_generic_malloc(200, kind_of_asked)) = k + 1;
+    memset(times, 0, sizeof times);
+    handle = drop_some;
+    wipe();
+}
+static void end_asked(int are_asked)
+{
+    for (int k = 0; k < ASKED; k++) asked[k] = NULL;
+    for (int k = 0; k < 3; k++) drop_some();
+    if (getpid() == self) return;
+    for (int k = 0; k < ASKED; k++)
+        if (times[k] != (k < are_asked)) _exit(IS_LOST);
+    _exit(0);
+}
+static void asked_ones_are_freed(void)
+{
+    make_asked();
+    trap();
+    GC_free(asked[ASKED - 1]);
+    trap_no_more();
+    end_asked(ASKED - 1);
+}
+static void asked_ones_are_called(void)
+{
+    make_asked();
+    for (int k = 0; k < 3; k++) asked[k] = NULL;
+    wipe();
+    traps_when_asked = 1;
+    GC_gcollect();
+    end_asked(ASKED);
+}
+
+/* Where what is walked through begins in a function of the program it ends where the collection goes on. */
+static void end_walk(GC_EventType event)
+{
+    if (event == GC_EVENT_START || event == GC_EVENT_MARK_END) trap_no_more();
+}
+
 /* Each moment of it. */
 static int walk(void (*way)(void), int may_stop)
 {
@@ -375,9 +439,12 @@ int main(void)
     if (failed == 0) CHECK(walk(jumps_come, 0));
     CHECK(walk(cycles_begin, 1));
     CHECK(walk(cycles_end, 1));
+    GC_set_on_collection_event(end_walk);
     CHECK(walk(described_ones_are_freed, 1));
     CHECK(walk(described_ones_grow, 1));
     CHECK(walk(described_ones_are_made, 1));
     CHECK(walk(finalizers_are_called, 1));
+    CHECK(walk(asked_ones_are_freed, 1));
+    CHECK(walk(asked_ones_are_called, 1));
     return check_ends();
 }
