@@ -8,30 +8,23 @@ enum { DROPPED };  // hides no object
 static struct toggled { GC_hidden_pointer hidden; bool is_strong; } *all;
 static size_t count, room;
 static GC_toggleref_func ask;
+static volatile unsigned asking;  // so many walks are under way, one in the middle of the other
 
 bool mpgc_has_toggled(void) { return count > 0; }
 
-// Where the object is that stood here when the program was asked. Its function may collect, so that others are asked and go, and those behind them
-// stand further down.
-static size_t place_of(GC_hidden_pointer hidden, size_t k)
-{
-    while (k >= count || all[k].hidden != hidden)
-        if (k-- == 0) return count;
-    return k;
-}
-
-// A collection begins, or ends, and other threads still run.
+// A collection begins, or ends, and other threads still run. The function, or a handler, may collect, so that others are asked and go: but none
+// stands elsewhere before this walk is over.
 void mpgc_ask_toggled(void)
 {
+    asking++;
     for (size_t k = 0; ask && k < count; k++) {
         GC_hidden_pointer hidden = all[k].hidden;
         if (hidden == DROPPED) continue;
         GC_ToggleRefStatus said = ask(GC_REVEAL_POINTER(hidden));
-        size_t at = place_of(hidden, k);
-        if (at == count) continue;
-        k = at;
-        all[k] = (struct toggled){ said == GC_TOGGLE_REF_DROP ? DROPPED : hidden, said == GC_TOGGLE_REF_STRONG };
+        if (said == GC_TOGGLE_REF_DROP) all[k].hidden = DROPPED;
+        all[k].is_strong = said == GC_TOGGLE_REF_STRONG;
     }
+    asking--;
 }
 
 void mpgc_mark_toggled(void)
@@ -45,8 +38,11 @@ void mpgc_drop_toggled(void)
 {
     size_t left = 0, words;
     uintptr_t base;
-    for (size_t k = 0; k < count; k++)
-        if (mpgc_find(~all[k].hidden, &base, &words)) all[left++] = all[k];
+    for (size_t k = 0; k < count; k++) {
+        bool stays = mpgc_find(~all[k].hidden, &base, &words);
+        if (!stays) all[k].hidden = DROPPED;
+        if (stays || asking > 0) all[left++] = all[k];
+    }
     count = left;
 }
 

@@ -408,6 +408,44 @@ static void asked_ones_are_called(void)
     end_asked(ASKED);
 }
 
+/* The program is asked for toggle references: those that stay do so, when the first one goes while the second one is dropped. */
+enum { TOGGLED = 4 };
+static GC_hidden_pointer toggled[TOGGLED];
+static GC_ToggleRefStatus is_strong(void *object)
+{
+    const struct known *one = object;
+    int traps = traps_when_asked && one->number == 1;
+    traps_when_asked -= traps;
+    if (traps) trap();
+    return one->number == 0 ? GC_TOGGLE_REF_WEAK : one->number == 1 || one->number == TOGGLED ? GC_TOGGLE_REF_DROP : GC_TOGGLE_REF_STRONG;
+}
+__attribute__((noinline)) static void make_toggled(void)
+{
+    GC_set_toggleref_func(is_strong);
+    for (GC_word k = 0; k < TOGGLED; k++) {
+        struct known *one = GC_malloc(200);
+        one->number = k;
+        if (k == 0) first = one;
+        toggled[k] = GC_HIDE_POINTER(one);
+        GC_toggleref_add(one, 1);
+    }
+}
+static void toggled_ones_are_asked(void)
+{
+    make_toggled();
+    wipe();
+    handle = drop_first;
+    traps_when_asked = 1;
+    GC_gcollect();
+    for (int k = 0; k < 3; k++) drop_first();
+    for (GC_word k = 2; k < TOGGLED; k++) {
+        struct known *one = GC_REVEAL_POINTER(toggled[k]);
+        if (GC_base(one) != one || one->number != k) _exit(IS_LOST);
+        one->number = TOGGLED;
+    }
+    if (getpid() != self) _exit(0);
+}
+
 /* Where what is walked through begins in a function of the program it ends where the collection goes on. */
 static void end_walk(GC_EventType event)
 {
@@ -446,5 +484,6 @@ int main(void)
     CHECK(walk(finalizers_are_called, 1));
     CHECK(walk(asked_ones_are_freed, 1));
     CHECK(walk(asked_ones_are_called, 1));
+    CHECK(walk(toggled_ones_are_asked, 1));
     return check_ends();
 }
