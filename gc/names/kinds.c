@@ -22,11 +22,17 @@ static void *make_described(size_t elements, size_t bytes, GC_word descriptor, i
     return is_read && !mpgc_describe(object, bytes, all, descriptor, kind) ? mpgc_out_of_memory(all) : object;
 }
 
+// Bytes of the object that such a request will have, as GC_size tells them: programs count from its end.
+static size_t size_for(size_t bytes)
+{
+    size_t least = bytes + (size_t)GC_get_all_interior_pointers();
+    return least <= PAGE / 2 ? GC_get_size_map_at((int)bytes) : (least + PAGE - 1) & ~(PAGE - 1);
+}
+
 static void *of_own_kind(size_t bytes, int kind)
 {
     if (kind < FIRST_KIND || (unsigned)kind >= kind_count) mpgc_stop("a request of a kind that nobody made");
-    size_t all = (bytes + (size_t)GC_get_all_interior_pointers() + WORD - 1) & ~(WORD - 1);
-    return make_described(1, bytes == 0 ? 1 : bytes, kinds[kind].descriptor + (kinds[kind].adds_size ? all : 0), kind);
+    return make_described(1, bytes == 0 ? 1 : bytes, kinds[kind].descriptor + (kinds[kind].adds_size ? size_for(bytes) : 0), kind);
 }
 
 void *mpgc_malloc_kind(size_t bytes, int kind)

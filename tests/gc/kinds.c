@@ -90,6 +90,39 @@ static NOINLINE void per_object(void)
     forget_all();
 }
 
+/* A descriptor to which the size is added counts from the object's end, which GC_size tells: it stands in the last word itself, or all are read but
+ * the last two. What grows where it is is read as far. */
+static uint64_t **ending[MANY];
+static uint64_t ***last_of(uint64_t **object) { return (uint64_t ***)((char *)object + GC_size(object)) - 1; }
+static NOINLINE void make_ending(int by_object, int all_but_two)
+{
+    static const size_t words[] = { 8, 4, 32, 49, 12, 6, 200, 400 };
+    enum { SIZES = sizeof words / sizeof *words };
+    GC_word bits[1] = { 8 }, second = GC_make_descriptor(bits, 4);
+    for (int k = 0; k < MANY; k++) {
+        size_t bytes = words[k % SIZES] * sizeof(uint64_t *);
+        ending[k] = GC_generic_malloc(bytes, k % 2 ? by_object : all_but_two);
+        uint64_t ***last = last_of(ending[k]);
+        if (k % 2)
+            *last = (uint64_t **)second;
+        else
+            ending[k] = GC_realloc(ending[k], GC_size(ending[k]) - 8);
+        *(k % 2 ? &ending[k][3] : (uint64_t **)(last - 2)) = named(k);
+    }
+}
+static NOINLINE void ends(void)
+{
+    int by_object = (int)GC_new_kind(GC_new_free_list(), (GC_word)-(GC_signed_word)sizeof(GC_word) | GC_DS_PER_OBJECT, 1, 1);
+    int all_but_two = (int)GC_new_kind(GC_new_free_list(), (GC_word)-(GC_signed_word)(2 * sizeof(GC_word)) | GC_DS_LENGTH, 1, 1);
+    make_ending(by_object, all_but_two);
+    collect();
+    CHECK(count_gone(0, MANY) == 0);
+    memset(ending, 0, sizeof ending);
+    collect();
+    CHECK(count_gone(0, MANY) >= MANY - 4);
+    forget_all();
+}
+
 /* A walk over all objects, lists of objects, and objects with a type. */
 static uint64_t *wanted;
 static int found, alike;
@@ -198,6 +231,7 @@ int main(void)
     lists_of_a_kind();
     forgotten();
     per_object();
+    ends();
     walks();
 #ifndef OTHER
     last_lists();
