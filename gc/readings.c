@@ -104,13 +104,14 @@ void mpgc_drop_described(void) { mpgc_keep_records(mpgc_was_read); }
 
 // What was begun for the cycle that marks, and for the records where they stand.
 static struct walk early;
-static unsigned walks;
+static unsigned walks, beginnings;
 static uint64_t ended = UINT64_MAX;
 static unsigned long moves;
 
 static void begin_early(void)
 {
     if (ended == mpgc.ended && moves == mpgc_records.moves) return;
+    beginnings = ended == mpgc.ended ? beginnings + 1 : 1;
     ended = mpgc.ended;
     moves = mpgc_records.moves;
     early = begin_walk(true, mpgc_records.count);
@@ -155,13 +156,15 @@ static bool go_on(uint64_t *left)
 }
 
 // A piece of a cycle: some are read of those that are marked, and some of what they lead to is marked. Answers whether there is more to do,
-// once all is marked. Where it stops other threads it is of more, as other pieces are (names/collections.c).
+// once all is marked. Where it stops other threads it is of more, as other pieces are (names/collections.c). Where records move again and again, since
+// the program frees many, it would never be over: so the rest is left to the end then.
 bool mpgc_read_some_described(void)
 {
-    enum { ALONE = 4096, STOPPING = 32768 };
+    enum { ALONE = 4096, STOPPING = 32768, MOST_BEGINNINGS = 4 };
     uint64_t left = mpgc_is_last_thread() ? ALONE : STOPPING;
     bool is_more = true;
     begin_early();
+    if (beginnings > MOST_BEGINNINGS) return false;
     mpgc_empty_stack();
     mpgc_take_roots(true, false);
     while (is_more && left > 0) is_more = go_on(&left);

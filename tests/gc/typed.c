@@ -261,6 +261,23 @@ static void grown(void)
     for (int k = 0; k < LONGER; k++) CHECK(object[k] == (k < SHORTER));
 }
 
+/* A cycle in small steps ends beside a program that makes typed objects and frees them at once, so that what is known of the others moves again and again. */
+static void come_and_go(void)
+{
+    enum { WORDS = 200, MOST = 10000000 };
+    static void *stays[20000];
+    GC_word bits[1] = { 2 }, number = 0;
+    GC_descr type = GC_make_descriptor(bits, 2);
+    if (!GC_is_incremental_mode()) return;
+    for (size_t k = 0; k < sizeof stays / sizeof *stays; k++) stays[k] = GC_malloc_explicitly_typed(WORDS * sizeof(GC_word), type);
+    GC_gcollect();
+    number = GC_get_gc_no();
+    GC_start_incremental_collection();
+    for (int k = 0; k < MOST && GC_get_gc_no() == number; k++) GC_free(GC_malloc_explicitly_typed(2 * sizeof(GC_word), type));
+    CHECK(GC_get_gc_no() > number);
+    memset(stays, 0, sizeof stays);
+}
+
 int main(void)
 {
     GC_INIT();
@@ -275,5 +292,6 @@ int main(void)
     moved();
     rings();
     grown();
+    come_and_go();
     return check_ends();
 }
