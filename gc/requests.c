@@ -223,7 +223,7 @@ void GC_free(void *object)
 enum { NO_KIND = -1 };
 
 // The kind of the program's own, if it has one. This too is one call.
-static int kind_of(uintptr_t base)
+UNSEEN static int kind_of(uintptr_t base)
 {
     if (!mpgc.has_more[mpgc_page_of(base)]) return NO_KIND;
     mpgc_call_begins();
