@@ -5,6 +5,7 @@
 #include "awaited.h"
 #include <stdlib.h>
 #include <string.h>
+#include <sys/mman.h>
 
 enum { USUAL = 6, LOOKED_AT = 4096, BATCH = 256, LEAST = 256 };
 
@@ -26,11 +27,20 @@ static bool are_many(void)
     return mpgc_ever_used_pages() >= used + used / 4 + LEAST;
 }
 
+// They aren't asked of malloc, in the middle of which a handler may collect.
+static bool are_ages(void)
+{
+    if (ages) return true;
+    void *at = mmap(NULL, MAX_PAGES, PROT_READ | PROT_WRITE, MAP_PRIVATE | MAP_ANONYMOUS | MAP_NORESERVE, -1, 0);
+    if (at != MAP_FAILED) ages = at;
+    return ages;
+}
+
 // A collection begins. Where few pages are free nothing is looked at, since the next collection may come soon.
 void mpgc_age_free_pages(void)
 {
     size_t page = 0, first, many = 0;
-    if (threshold == 0 || (!ages && !(ages = mpgc_cleared_memory(MAX_PAGES, 1)))) return;
+    if (threshold == 0 || !are_ages()) return;
     bool is_worth_it = are_many();
     while (is_worth_it && (many = mpgc_free_run(page, &first)) > 0) {
         memset(ages + page, 0, first - page);

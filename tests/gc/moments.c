@@ -1,5 +1,6 @@
 /* A signal comes between any two instructions of a request, and its handler makes requests too, or a collection. At each of these moments,
- * in a child of its own, each is given objects of its own, which stay; or the program is stopped by the sentence that says why.
+ * in a child of its own, each is given objects of its own, which stay; or the program is stopped by the sentence that says why. It comes in the
+ * C library's malloc too, which the first collection leaves alone.
  *
  * The processor is told to trap behind each instruction (x86-64). */
 #define _GNU_SOURCE
@@ -128,6 +129,25 @@ static int walk(uint64_t *(*request)(void))
     return went_on + were_stopped == moments && went_on > 0;
 }
 
+/* What malloc has in the middle of it is there in the end. */
+static uint64_t *ask_malloc(void)
+{
+    enum { PIECES = 12 };
+    static void *volatile pieces[PIECES];
+    static uint64_t number;
+    for (size_t k = 0; k < PIECES; k += 2) free(pieces[k]);
+    for (size_t k = 0; k < PIECES; k++) pieces[k] = k % 2 ? pieces[k] : malloc(1200 + k % 5 * 300);
+    for (size_t k = 1; k < PIECES; k += 2) pieces[k] = malloc(100 + k % 7 * 300);
+    return &number;
+}
+static void others_memory(void)
+{
+    (void)ask_malloc();
+    collects = 1;
+    CHECK(walk(ask_malloc) && were_stopped == 0);
+    collects = 0;
+}
+
 /* The first request of a size, and the next one, for which the thread has some already. */
 static void first_ones(void)
 {
@@ -217,6 +237,7 @@ int main(void)
     GC_set_abort_func(on_stop);
     GC_expand_hp(1 << 22);
     sigaction(SIGTRAP, &action, NULL);
+    others_memory();
     first_ones();
     collects = 1;
     first_ones();
