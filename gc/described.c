@@ -35,6 +35,13 @@ int mpgc_described_kind(uintptr_t base)
     return kind;
 }
 
+// Whether all of so many bytes is read that is to be, if the object is described: of elements those are that were asked for.
+bool mpgc_is_read_to(uintptr_t base, size_t bytes)
+{
+    const struct described *one = at_base(base);
+    return !one || one->step == one->bytes || bytes <= one->bytes;
+}
+
 bool mpgc_describe(void *object, size_t step, size_t bytes, GC_word descriptor, int kind)
 {
     mpgc_lock();

@@ -304,6 +304,7 @@ HIDDEN void mpgc_keep_records(bool (*stays)(const struct described *one));
 
 // described.c
 HIDDEN void mpgc_forget_described(uintptr_t base);
+HIDDEN bool mpgc_is_read_to(uintptr_t base, size_t bytes);
 HIDDEN void mpgc_begin_reading(void);
 HIDDEN bool mpgc_was_read(const struct described *one);
 HIDDEN void mpgc_will_be_read(struct described *one);

@@ -260,6 +260,16 @@ static void *move(void *old, size_t old_bytes, size_t bytes)
 
 static bool is_read(uintptr_t base) { return mpgc_kind_at(base) == ORDINARY || kind_of(base) != NO_KIND; }
 
+// Elements that are added to typed ones would be read by nobody where they are.
+UNSEEN static bool may_stay(uintptr_t base, size_t bytes)
+{
+    if (!mpgc.has_more[mpgc_page_of(base)]) return true;
+    mpgc_call_begins();
+    bool answer = mpgc_is_read_to(base, bytes);
+    mpgc_call_ends();
+    return answer;
+}
+
 // All bytes past those asked for are 0 in an object that is read, so that what grows in place is 0.
 void *GC_realloc(void *old, size_t bytes)
 {
@@ -273,7 +283,7 @@ void *GC_realloc(void *old, size_t bytes)
     if (!mpgc_find((uintptr_t)old, &base, &words) || base != (uintptr_t)old)
         mpgc_stop("GC_realloc of what isn't the beginning of an object");
     size_t room = words * WORD;
-    if (bytes > room - extra() || bytes < room / 2) return move(old, room, bytes);
+    if (bytes > room - extra() || bytes < room / 2 || !may_stay(base, bytes)) return move(old, room, bytes);
     if (is_read(base)) memset((char *)old + bytes, 0, room - bytes);
     return old;
 }

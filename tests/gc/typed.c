@@ -261,6 +261,28 @@ static void grown(void)
     for (int k = 0; k < LONGER; k++) CHECK(object[k] == (k < SHORTER));
 }
 
+#ifndef OTHER
+/* Elements that are added to an array of typed ones keep what they lead to, wherever it lies then. (bdwgc reads none of such an array any more.) */
+static NOINLINE void make_longer(size_t many)
+{
+    enum { FEW = 40 };
+    array = GC_calloc_explicitly_typed(FEW, sizeof *array, GC_make_descriptor(&(GC_word){ 1 }, 3));
+    for (int k = 0; k < FEW; k++) array[k].strong = named(k);
+    array = GC_realloc(array, many * sizeof *array);
+    for (size_t k = FEW; k < many; k++) array[k].strong = named((int)k);
+}
+static NOINLINE void longer(void)
+{
+    for (size_t many = 42; many < 130; many += 12) {
+        make_longer(many);
+        collect();
+        CHECK(count_gone(0, (int)many) == 0);
+        array = NULL;
+        forget_all();
+    }
+}
+#endif
+
 /* A cycle in small steps ends beside a program that makes typed objects and frees them at once, so that what is known of the others moves again and again. */
 static void come_and_go(void)
 {
@@ -292,6 +314,9 @@ int main(void)
     moved();
     rings();
     grown();
+#ifndef OTHER
+    longer();
+#endif
     come_and_go();
     return check_ends();
 }
