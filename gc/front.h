@@ -68,7 +68,7 @@ HIDDEN long mpgc_call_with(long number, long first, long second, long third, lon
     mpgc_call_with(number, (long)(first), (long)(second), (long)(third), (long)(fourth), (long)(fifth), (long)(sixth))
 #define mpgc_call_kernel(...) WITH_WORDS(__VA_ARGS__, 0, 0, 0, 0, 0, 0, 0)
 
-// signals.c. No handler of the program comes between these two.
+// signals.c. No handler of the program comes between these two, which are no more than calls of the C library for it, and aren't taken for the program.
 HIDDEN void mpgc_block_signals(sigset_t *old);
 HIDDEN void mpgc_restore_signals(const sigset_t *old);
 
