@@ -63,7 +63,7 @@ static uint32_t to_read;  // the number of the record of the first that will be 
 
 void mpgc_begin_reading(void)
 {
-    reading++;
+    if (++reading == 0) reading = 1;  // a record that no reading has met has 0
     to_read = 0;
 }
 
