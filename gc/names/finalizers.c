@@ -228,7 +228,8 @@ int GC_invoke_finalizers(void)
         GC_alloc_unlock();
         if (!is_one) return invoked;
         one.function(one.object, one.data);
-        __asm__ volatile("" : : "r"(&one) : "memory");  // what it names stays until then
+        one = (struct entry){ 0 };
+        __asm__ volatile("" : : "r"(&one) : "memory");  // what it named stays until then, and isn't left on the stack
     }
 }
 
