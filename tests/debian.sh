@@ -14,7 +14,8 @@
 # left out`. MPHEAP_ARCHIVE and MPHEAP_INCLUDE are those of gc/build. GC_FREE_SPACE_DIVISOR is the list's, unless it is set; MODES are the
 # three, and SECONDS_EACH 300, unless they are set; what was said and written goes to the folder KEEP, if it is set.
 #
-# The lists are the files `programs` of the two folders: NAME | PACKAGE | DIVISOR | FILES that are written, and compared | COMMAND.
+# The lists are the files `programs` of the two folders: NAME | PACKAGES | DIVISOR | FILES that are written, and compared | COMMAND. A row whose
+# command isn't found over libgc (status 127) isn't the same.
 set -uo pipefail
 top=$(dirname "$(dirname "$(readlink -f "${BASH_SOURCE[0]}")")")
 room=$(mktemp -d)
@@ -26,7 +27,12 @@ read -ra modes <<<"${MODES:-full steps thread}"
 # field N LINE: without the blanks round it.
 field() { cut -d '|' -f "$1" <<<"$2" | sed 's/^ *//; s/ *$//'; }
 
+# Of one package, and of all of them.
 is_installed() { dpkg-query -W -f '${Status}' "$1" 2>/dev/null | grep -q 'ok installed'; }
+are_installed() {
+    local one
+    for one in "$@"; do is_installed "$one" || return; done
+}
 
 # compile NAME: what has to be compiled before, into $room/made. Sources are those of the folder of inputs.
 compile() {
@@ -108,7 +114,9 @@ once() {
 # said WANTED SEEN: what the run over libmpgc came to.
 said() {
     local sentence
-    if cmp -s "$1" "$2"; then
+    if grep -q '^status 127$' "$1.out"; then
+        echo "not found"
+    elif cmp -s "$1" "$2"; then
         echo same
     elif sentence=$(grep -a -m 1 '^libmpgc: ' "$2.err"); then
         echo "stops: ${sentence#libmpgc: }"
@@ -187,13 +195,13 @@ echo "| Program | $(printf '%s | ' "${modes[@]}")collections | seconds | longest
 echo "|---|$(printf -- '---|%.0s' "${modes[@]}")---|---|---|---|"
 while read -r line; do
     name=$(field 1 "$line")
-    package=$(field 2 "$line")
+    read -ra packages <<<"$(field 2 "$line")"
     [[ $wanted = "  " || $wanted = *" $name "* ]] || continue
-    if $install && ! is_installed "$package"; then
-        DEBIAN_FRONTEND=noninteractive apt-get install -y -q --no-install-recommends "$package" </dev/null >"$room/apt" 2>&1
+    if $install && ! are_installed "${packages[@]}"; then
+        DEBIAN_FRONTEND=noninteractive apt-get install -y -q --no-install-recommends "${packages[@]}" </dev/null >"$room/apt" 2>&1
     fi
-    if ! is_installed "$package"; then
-        left+=("$name ($package isn't here)")
+    if ! are_installed "${packages[@]}"; then
+        left+=("$name (${packages[*]}: not all here)")
         continue
     fi
     compile "$name"

@@ -1,4 +1,4 @@
-# A book of some hundred transactions, and reports of it.
+# book.sh [COUNT]: a book of so many transactions, and reports of it.
 {
     cat <<'HEAD'
 <?xml version="1.0" encoding="utf-8" ?>
@@ -21,7 +21,7 @@ HEAD
     split() {
         printf '<trn:split><split:id type="guid">%032x</split:id><split:reconciled-state>n</split:reconciled-state><split:value>%d/100</split:value><split:quantity>%d/100</split:quantity><split:account type="guid">%032x</split:account></trn:split>' "$1" "$2" "$2" "$3"
     }
-    for k in $(seq 1 400); do
+    for k in $(seq 1 "${1:-400}"); do
         printf '<gnc:transaction version="2.0.0"><trn:id type="guid">%032x</trn:id><trn:currency><cmdty:space>CURRENCY</cmdty:space><cmdty:id>EUR</cmdty:id></trn:currency>' $((1000 + k))
         printf '<trn:date-posted><ts:date>2024-%02d-%02d 10:59:00 +0000</ts:date></trn:date-posted><trn:date-entered><ts:date>2024-12-01 10:59:00 +0000</ts:date></trn:date-entered>' $((k % 12 + 1)) $((k % 28 + 1))
         printf '<trn:description>buys %d</trn:description><trn:splits>' "$k"

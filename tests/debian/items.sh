@@ -1,7 +1,7 @@
-# A template of many items.
+# items.sh [COUNT]: a template of so many items.
 {
     echo 'AutoGen Definitions items.tpl;'
-    for k in $(seq 1 400); do echo "item = { name = name$k; value = $((k * k)); };"; done
+    for k in $(seq 1 "${1:-400}"); do echo "item = { name = name$k; value = $((k * k)); };"; done
 } >items.def
 cat >items.tpl <<'TEMPLATE'
 [+ AutoGen5 template txt +]

@@ -1,12 +1,13 @@
 #!/usr/bin/env bash
-# served.sh FILE: Apache serves FILE as a page, by the module of parser3, from two processes, and is asked for it 40 times. It prints the sums of
-# what came. Apache ends with its whole group of processes, so it has one of its own.
+# served.sh MODULE OBJECT HANDLER FILE: Apache serves FILE as a page, by that handler of the module, from two processes, and is asked for it 40
+# times. It prints the sums of what came. Apache ends with its whole group of processes, so it has one of its own.
 set -eu
 room=$(mktemp -d)
 port=$((20000 + $$ % 20000))
 trap '/usr/sbin/apache2 -f "$room/conf" -k stop || true; wait; rm -rf "$room"' EXIT
 mkdir "$room/pages"
-cp "$1" "$room/pages/index.html"
+page=index.${4##*.}
+cp "$4" "$room/pages/$page"
 chmod -R a+rX "$room"
 modules=/usr/lib/apache2/modules
 cat >"$room/conf" <<CONF
@@ -18,9 +19,9 @@ ErrorLog $room/errors
 LoadModule mpm_prefork_module $modules/mod_mpm_prefork.so
 LoadModule authz_core_module $modules/mod_authz_core.so
 LoadModule dir_module $modules/mod_dir.so
-LoadModule parser3_module $modules/mod_parser3.so
+LoadModule $1 $2
 DocumentRoot $room/pages
-DirectoryIndex index.html
+DirectoryIndex $page
 User nobody
 Group nogroup
 StartServers 2
@@ -28,8 +29,8 @@ MaxConnectionsPerChild 15
 <Directory $room/pages>
     Require all granted
 </Directory>
-<FilesMatch "\.html$">
-    SetHandler parser3-handler
+<FilesMatch "^index">
+    SetHandler $3
 </FilesMatch>
 CONF
 
