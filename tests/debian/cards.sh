@@ -3,7 +3,7 @@ export GUILE_LOAD_PATH=$PWD GUILE_AUTO_COMPILE=0 GAME=$1 SLOTS=$2
 rm -f played
 /usr/games/sol --variation cards.scm >said 2>&1 &
 for k in $(seq 1 400); do
-    [ ! -e played ] && [ -n "$(jobs -r)" ] || break
+    if [ -e played ] || [ -z "$(jobs -r)" ]; then break; fi
     [ $((k % 10)) != 1 ] || xdotool search --onlyvisible --name Cards windowfocus --sync key ctrl+d 2>said-of-keys
     sleep 0.1
 done

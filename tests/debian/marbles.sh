@@ -7,7 +7,7 @@ cp share/levels/Shop1.map share/levels/level.map
 cp marbles.scm share/levels/level.scm
 /usr/games/trackballs -w -m -l level >said 2>&1 &
 for _ in $(seq 1 60); do
-    [ ! -s played ] && [ -n "$(jobs -r)" ] || break
+    if [ -s played ] || [ -z "$(jobs -r)" ]; then break; fi
     xdotool mousemove 320 320 click 1
     sleep 1
 done
