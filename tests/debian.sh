@@ -36,7 +36,7 @@ are_installed() {
 
 # compile NAME: what has to be compiled before, into $room/made. Sources are those of the folder of inputs.
 compile() {
-    local made
+    local made flags
     case $1 in
         ats) (cd "$room/made" && PATSHOME=/usr/lib/ats2-postiats-0.4.2 patscc -DATS_MEMALLOC_GCBDW "$inputs/lists.dats" -o lists.ats -lgc) ;;
         crystal-threads) (cd "$room/made" && crystal build --no-color -Dpreview_mt "$inputs/fibers.cr" -o fibers.threads) ;;
@@ -48,6 +48,12 @@ compile() {
                 nekoc "$room/made/made-$(basename "$made")"
             done
             ;;
+        within-ecl) cc "$inputs/with_ecl.c" -o "$room/made/with_ecl" -lecl -lgc ;;
+        within-guile)
+            read -ra flags <<<"$(pkg-config --cflags --libs guile-3.0)"
+            cc "$inputs/with_guile.c" -o "$room/made/with_guile" "${flags[@]}"
+            ;;
+        within-neko) (cd "$room/made" && cc "$inputs/with_neko.c" -o with_neko -lneko -lgc && cp "$inputs/within.neko" . && nekoc within.neko) ;;
         mdk) (cd "$room/made" && cp "$inputs/count.mixal" . && mixasm count.mixal) ;;
         objective-c) gcc -std=gnu11 "$inputs/list.m" -o "$room/made/list" -lobjc_gc ;;
         stalin-program)
