@@ -167,10 +167,10 @@ fn any_number_of_helpers_ends_it_alike(rt: HostRuntime) -> Result<(), Fail> {
 // with ample memory; `rt try --test --fail-alloc N` refuses the N-th request.
 #[test]
 fn refused_memory(rt: HostRuntime) -> Result<(), Fail> {
+    let helpers = Helpers::new(2).ok_or("two helpers")?;
     let Ok(opened) = open(rt.alloc(), 4) else {
         return Ok(());
     };
-    let helpers = Helpers::new(2).ok_or("two helpers")?;
     let helped = end_cycles::<Brand, _>(&rt, rt.alloc(), opened, Some(helpers));
     assert_eq!(rt; helped, WANTED);
     Ok(())
